@@ -30,7 +30,7 @@ const MAX_RECORDS: u64 = u64::MAX;
 /// ```
 /// let mut bytes = record.to_vec(alloc)?;
 /// let (content_type, read) = reader.read(bytes.as_mut_slice())?;
-/// holds(rt, content_type == carried.content_type, "the type");
+/// equal(rt, content_type, carried.content_type, "the type");
 /// same(rt, read, &content, "the content");
 /// let mut written = Vec::new(alloc);
 /// writer.write(content_type, &content, carried.padding, &mut written)?;

@@ -1,7 +1,7 @@
 //! Tests with TLS 1.3 connections of OpenSSL, whose records are read and written again.
 
 use crate::tests::captured::CAPTURED;
-use crate::tests::checks::{equal, holds, same};
+use crate::tests::checks::{equal, same};
 use aead_ciphers::aead::{AES_128_GCM, AES_256_GCM, Algorithm};
 use hex::FromHex;
 use records::{Begins, ContentType, Reader, RecordKind, Writer, classify};
@@ -96,7 +96,7 @@ fn record_there_and_back(
     let content = bytes_of(alloc, carried.content)?;
     let mut bytes = record.to_vec(alloc)?;
     let (content_type, read) = reader.read(bytes.as_mut_slice())?;
-    holds(rt, content_type == carried.content_type, "the type");
+    equal(rt, content_type, carried.content_type, "the type");
     same(rt, read, &content, "the content");
     let mut written = Vec::new(alloc);
     writer.write(content_type, &content, carried.padding, &mut written)?;
