@@ -31,8 +31,23 @@ use specs.contracts.aead.less_safe_key.LessSafeKey.open_within as Within
 use Rattle.aead_ciphers_tests.proofs.tests.loans.opens as Proofs
 
 abbrev stayed : Stays Contract.ended.signature.params Contract.ended.kept
-stayed = (stay_dropped _ _, (stay_dropped _ _, (stay_dropped _ _, (stay_slice (2 ∷ []) tt (Walk.plain (λ _. u8)), (stay_dropped
-    _ _, tt)))))
+stayed = (
+  stay_dropped _ _,
+  (
+    stay_dropped _ _,
+    (
+      stay_dropped _ _,
+      (
+        stay_slice (2 ∷ []) tt (Walk.plain (λ _. u8)),
+        (
+          stay_dropped
+              _ _,
+          tt,
+        ),
+      ),
+    ),
+  ),
+)
 
 pub opens_spec : {M : Type 1} → Proofs.Statement.statement M
 opens_spec 𝓤 𝓛 𝓜 𝓡 wired =
@@ -52,9 +67,22 @@ opens_spec 𝓤 𝓛 𝓜 𝓡 wired =
     let old = in_out.now in let n = Walk.length old - 16 - range.start in
     let nonce-word = Walk.nonce_word 𝓛 nonce _ is-nonce in let aad-word = Walk.aad_word 𝓛 (Walk.named_lft 3 1 tt κs) aad _
     is-aad in
-    let words : Walk.Words Ts vs =
-    ((_, is-self.0, (tt, tt)), (nonce-word, (aad-word, ((_, is-in_out.0.0, Walk.typed b), (Walk.range_word 𝓛 range _ is-range,
-    tt)))))
+    let words : Walk.Words Ts vs = (
+      (_, is-self.0, (tt, tt)),
+      (
+        nonce-word,
+        (
+          aad-word,
+          (
+            (_, is-in_out.0.0, Walk.typed b),
+            (
+              Walk.range_word 𝓛 range _ is-range,
+              tt,
+            ),
+          ),
+        ),
+      ),
+    )
     in
     let vals = Walk.words_vals Ts vs words in let at_end : V.Ghost = ((κs, qs, bounds, a, vals), tt) in
     Walk.at_words words (move ! (6 ∷ 2 ∷ []) $ Walk.alloc_all ! (λ l. let locals = env Proofs.Code.Mir.locals l in
