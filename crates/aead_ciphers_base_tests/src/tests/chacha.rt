@@ -1,7 +1,7 @@
 //! Tests of `chacha`: vectors of RFC 8439 and RFC 9001, of the definitions in contracts and of the code; the words of keys and
 //! counters, the first and the last block, and an input far after the output.
 
-ghost use Rattle.std.specs.Prelude.{◌≡◌};
+ghost use Rattle.std.specs.Prelude.{◌≡◌, ◌≤◌, length};
 ghost use Rattle.aead_ciphers_base.specs.ChaCha20.{quarter_round, chacha20_block};
 ghost use Rattle.aead_vectors.specs.declared.rfc_8439.TheConstants.{BLOCK, BLOCK_NONCE, KEY};
 
@@ -66,37 +66,40 @@ fn zeros() -> Nonce {
     Nonce::assume_unique_for_key([0; NONCE_LEN])
 }
 
-/// Returns the block for a key, a nonce and a block counter of zeros.
-fn block_of_zeros(alloc: Global) -> Result<[u8; BLOCK_LEN], Fail> {
+/// Returns the first bytes of the block for a key, a nonce and a block counter of zeros.
+fn block_of_zeros<const N: usize>(alloc: Global) -> Result<[u8; N], Fail> {
     let case = Case::parse(alloc, A_1_VECTOR_1)?;
-    Ok(
-        *case
-            .ciphertext
-            .as_slice()
-            .as_array::<BLOCK_LEN>()
-            .ok_or("a block's length")?,
-    )
+    let block = case.ciphertext.as_slice();
+    Ok(*block.first_chunk::<N>().ok_or("a block's length")?)
+}
+
+/// Encrypts at most a block under a key, a nonce and a block counter of zeros.
+fn encrypt_zeros(buffer: &mut [u8])
+    requires { length buffer.old ≤ 64 }
+{
+    let counter = Counter::from_nonce_and_ctr(zeros(), 0);
+    Key::new([0; KEY_LEN]).encrypt(counter, Overlapping::from(buffer));
 }
 
 #[test]
 fn rfc_8439_a_1_vector_1(rt: HostRuntime) -> Result<(), Fail> {
-    let wanted = block_of_zeros(rt.alloc())?;
-    let key = Key::new([0; KEY_LEN]);
-    let mut buffer = [0; BLOCK_LEN];
-    key.encrypt(
-        Counter::from_nonce_and_ctr(zeros(), 0),
-        Overlapping::from(&mut buffer[..]),
-    );
-    same(&rt, &buffer, &wanted, "the block");
+    let mut block = [0; BLOCK_LEN];
+    encrypt_zeros(&mut block);
+    same(&rt, &block, &block_of_zeros::<BLOCK_LEN>(rt.alloc())?, "the block");
+    let wanted = block_of_zeros::<16>(rt.alloc())?;
     let mut front = [0; 16];
-    key.encrypt(
-        Counter::from_nonce_and_ctr(zeros(), 0),
-        Overlapping::from(&mut front[..]),
-    );
-    same(&rt, &front, &wanted[..16], "the first bytes of the block");
+    encrypt_zeros(&mut front);
+    same(&rt, &front, &wanted, "its first bytes");
+    Ok(())
+}
+
+#[test]
+fn block_0_and_a_mask(rt: HostRuntime) -> Result<(), Fail> {
+    let wanted = block_of_zeros::<16>(rt.alloc())?;
+    let key = Key::new([0; KEY_LEN]);
     let mut block = [0; 16];
     let one = key.encrypt_single_block_with_ctr_0(zeros(), &mut block);
-    same(&rt, &block, &wanted[..16], "block 0");
+    same(&rt, &block, &wanted, "block 0");
     words_are(&rt, one, &[1, 0, 0, 0]);
     same(&rt, &key.new_mask([0; 16]), &wanted[..5], "the mask");
     Ok(())
@@ -108,8 +111,8 @@ fn the_input_is_259_bytes_after_the_output(rt: HostRuntime) -> Result<(), Fail> 
     buffer[259..].fill(0);
     let in_out = Overlapping::new(&mut buffer[..], 259..)?;
     Key::new([0; KEY_LEN]).encrypt(Counter::from_nonce_and_ctr(zeros(), 0), in_out);
-    let wanted = block_of_zeros(rt.alloc())?;
-    same(&rt, &buffer[..16], &wanted[..16], "the output");
+    let wanted = block_of_zeros::<16>(rt.alloc())?;
+    same(&rt, &buffer[..16], &wanted, "the output");
     same(&rt, &buffer[16..259], &[0x7b; 243], "between them");
     same(&rt, &buffer[259..], &[0; 16], "the input stays");
     Ok(())
