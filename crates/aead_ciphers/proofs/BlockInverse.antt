@@ -1,5 +1,5 @@
--- Every block but zero has an inverse, so the blocks are a field: 128 squarings give each block back, and only zero and the
--- unit are their own squares.
+-- Every block but zero has an inverse, so the blocks are a field: 128 squarings give each block back, and only zero and the unit
+-- are their own squares. So a^(2^128 - 1) is zero or the unit.
 use Rattle.std.proofs.Common.{◌≡◌, ◌≢◌, ℕ, zero, suc, ◌⊎◌, inl, inr, ⊎_elim, Bool, true, false, List, [], ◌∷◌, map, replicate, refl, sym, ap, ap₂, ◌∙◌}
 use Rattle.aead_ciphers_base.proofs.XorLemmas.{xor_comm, xor_exchange}
 use Rattle.aead_ciphers.specs

@@ -1,5 +1,8 @@
 -- Bytes encrypted in pieces: what a walk's chunks hold, and the rest.
-use Rattle.std.proofs.Common.{◌≡◌, ℕ, ◌+◌, ◌-◌, ◌≤◌, List, ◌++◌, length, take, drop, refl, sym, ap, ap₂, ◌∙◌, arith, append-nil, length-append, length-take, length-take-le, length-drop, take_all, take_at, drop_at, append_assoc}
+-- When a message is sealed or opened, its buffer is one list equation, `front ++ drop d was`, and each step replaces a further
+-- part of the front.
+use Rattle.std.proofs.Common.{◌≡◌, ℕ, ◌+◌, ◌-◌, ◌*◌, ◌/◌, ◌%◌, ◌≤◌, List, ◌++◌, length, take, drop, refl, sym, ap, ap₂, ◌∙◌, arith, append-nil, length-append, length-take, length-take-le, length-drop, take_all, take_at, drop_at, append_assoc}
+use Rattle.std.specs.Int.{div_ceil}
 use Rattle.std.proofs.lemmas.List.{drop_all, drop-take, take-append-le, take-take}
 use Rattle.std.proofs.Math.Seq.{take-add}
 use Rattle.aead_ciphers_base.specs
@@ -82,3 +85,21 @@ short_message cipher nonce w n message pad last rest size len room e =
           ∙ take-counter_mode cipher nonce 2 n (take v text) (omega (arith, fits))
           ∙ ap (counter_mode cipher nonce 2) (take-take n v text (omega arith) ∙ take_at message pad n len),
     )
+
+-- a piece was put in the place of another of its length
+pub put_length : (d n : ℕ) (xs piece : List ℕ) → length piece ≡ length (take n (drop d xs))
+    → length (take d xs ++ (piece ++ drop n (drop d xs))) ≡ length xs
+put_length d n xs piece same =
+    length-append (take d xs) (piece ++ drop n (drop d xs))
+    ∙ omega (arith, same, length-append piece (drop n (drop d xs)), length-take d xs, length-take n (drop d xs), length-drop n (drop d xs), length-drop d xs)
+
+-- the front of a list of whole blocks, up to the end of the block that holds byte e - 1
+pub blocks_length : (e q most : ℕ) (xs : List ℕ) → q ≡ div_ceil e 16 → e ≤ most → most % 16 ≡ 0 → length xs ≡ most → length (take (q * 16) xs) ≡ q * 16
+blocks_length e q most xs is fits whole size = length-take-le (q * 16) xs (omega arith)
+
+-- these blocks are whole, and how many they are
+pub blocks_whole : (q size : ℕ) → size ≡ q * 16 → (size - 0) % 16 ≡ 0
+blocks_whole q size is = omega arith
+
+pub blocks_count : (e q size : ℕ) → q ≡ div_ceil e 16 → size ≡ q * 16 → (size - 0) / 16 ≡ (e + 15) / 16
+blocks_count e q size is all = omega arith

@@ -1,6 +1,7 @@
 -- A polynomial over blocks that isn't zero has few roots: where the differences of as many blocks as it has coefficients have
--- inverses, one is no root. So two lists of blocks that differ when padded have GHASHes with a given XOR under few hash
--- subkeys, and few hash subkeys accept two messages that differ.
+-- inverses, one is no root. For one with as many roots as coefficients is zero, since dividing out a root removes a coefficient.
+-- GHASH is a polynomial in the hash subkey, with the blocks as coefficients. So two lists of blocks that differ when padded have
+-- GHASHes with a given XOR under few hash subkeys, and few hash subkeys accept two messages that differ.
 use Rattle.std.proofs.Common.{◌≡◌, ℕ, suc, ◌+◌, ◌<◌, ◌≤◌, List, [], ◌∷◌, length, get_or, AllPairs, refl, sym, ap, ap₂, ◌∙◌, arith, zero, ◌-◌, ⊎_elim, max, ◌++◌, replicate, reverse, All, subst, length-append, ◌≢◌}
 use Rattle.std.specs.List.{AllByRecursion}
 use Rattle.aead_ciphers_base.proofs.XorLemmas.{xor_assoc, xor_comm, xor_exchange}

@@ -23,6 +23,7 @@ pub mod RoundTripLemmas
 pub mod RunLemmas
 pub mod RunningHash
 pub mod SealLemmas
+pub mod SealedChunks
 pub mod SequenceLemmas
 pub mod SquareTables
 pub mod SubkeyMultiples

@@ -1,11 +1,11 @@
 -- The cases of a sealing call.
-use Rattle.std.proofs.Common.{◌≡◌, ℕ, ◌+◌, ◌-◌, ◌↔◌, ◌++◌, List, Bool, length, take, replicate, is_ok, IsOk, IsErr, IfOk, OnOk, OnErr, Ok, Err, Result, refl, arith, length-append}
+use Rattle.std.proofs.Common.{◌≡◌, ℕ, ◌+◌, ◌-◌, ◌↔◌, ◌++◌, List, Bool, length, take, replicate, is_ok, IsOk, IsErr, IfOk, OnOk, OnErr, Ok, Err, Result, refl, subst, arith, length-append}
 use Rattle.std.proofs.Math.Seq.{take-append_seam}
 use Rattle.aead_ciphers.specs
 use specs.Aes.{aes}
 use specs.BoundState.{BoundState}
 use specs.Gcm.{Fits, gcm_encrypted, gcm_tag, gcm_sealed}
-use specs.NonceSequence.{Closes}
+use specs.NonceSequence.{Closes, UnderNext}
 use specs.Steps.{SealStep, no_room, no_nonce, too_long, sealed, Spends, with_tag}
 
 pub grown_less : (xs : List ℕ) → length (xs ++ replicate 16 0) - 16 ≡ length xs
@@ -16,6 +16,26 @@ grown_more xs = length-append xs _
 
 pub grown_front : (xs : List ℕ) → take (length (xs ++ replicate 16 0) - 16) (xs ++ replicate 16 0) ≡ xs
 grown_front xs = rw (grown_less xs) (take-append_seam xs _)
+
+-- a fact holds in each case of a result
+pub in_ok : {X E P : Type 0} (r : Result X E) → P → OnOk r P
+in_ok (Ok x) p = p
+in_ok (Err e) p = tt
+
+pub in_err : {X E P : Type 0} (r : Result X E) → P → OnErr r P
+in_err (Ok x) p = tt
+in_err (Err e) p = p
+
+-- a result that is no error if a condition holds
+pub no_err : {X E F : Type 0} (P : Type 0) (r : Result X E) → (IsOk r ↔ F) → F → OnErr r P
+no_err P (Ok x) accepted fits = tt
+no_err P (Err e) accepted fits = let no = accepted.1 fits in absurd (cc)
+
+-- what holds of the nonce that the sequence returned holds of the next nonce
+pub under_next : {X E : Type 0} {is_next : List ℕ → Type 0} (r : Result X E) (P : List ℕ → Type 0) {nonce : List ℕ}
+    → UnderNext is_next (λ next. nonce ≡ next) → OnOk r (P nonce) → OnOk r (UnderNext is_next P)
+under_next (Ok x) P told holds = λ next is. subst P (told next is) holds
+under_next (Err e) P told holds = tt
 
 module _ {N : Type 0} (spent : N → List (List ℕ)) (is_closed : N → Bool) (refuse grant : Type 0) (was : BoundState N) (aad old : List ℕ) where
   -- a sealing that found no room

@@ -1,4 +1,6 @@
 -- The multiples of a block by the powers of u, and the loop of `product` over them.
+-- The product is Horner's rule on coefficients. Multiple k is the action of u^k on the hash subkey, and by the loop's invariant
+-- the sum in lane j is the action of the first bits of word j of the block.
 use Rattle.std.proofs.Common.{◌≡◌, ℕ, zero, suc, ◌+◌, ◌-◌, ◌/◌, ◌*◌, ◌%◌, ◌^◌, ◌<◌, ◌≤◌, Bool, true, false, List, ◌∷◌, ◌++◌, length, replicate, sym, ap, ap₂, subst, ◌∙◌, arith, ◌==◌, pow-suc, length-append, bit_xor, if◌then◌else◌, below_more, pow_pos, reverse}
 use Rattle.std.specs.Int.{bit_at, to_be_bytes, w128}
 use Rattle.std.proofs.lemmas
