@@ -1,4 +1,5 @@
 -- Sums of blocks times powers of u^8, by Horner's rule, and a block as the sum of its bytes.
+-- By the invariant of `product`, the bytes so far are the sum of the rows passed, multiplied by u^8 once for each row since.
 use Rattle.std.proofs.Common.{◌≡◌, ℕ, zero, suc, ◌+◌, ◌*◌, ◌<◌, ◌≤◌, Bool, false, ◌&&◌, List, [], ◌∷◌, ◌++◌, length, flat_map, replicate, slice_index, refl, sym, ap, ap₂, ◌∙◌, arith, inl, inr}
 use Rattle.std.proofs.Math.ListN.{get_or-eq_default}
 use Rattle.std.proofs.lemmas.List.Elements.{All-cons, All-tail}

@@ -1,4 +1,7 @@
 -- Planes of 256 bits by their halves, which are planes of 128 bits.
+-- ShiftRows and the rotations of MixColumns permute the bytes of each plane, so the rounds are those of `aead_ciphers_base`, at
+-- `Word` for eight blocks and at `WiderWord` for sixteen. There they are proved for any `Plane`: here, only the moves of rows and
+-- the packing have proofs of their own.
 use Rattle.std.proofs.Common.{◌≡◌, ℕ, zero, suc, ◌+◌, ◌*◌, ◌/◌, ◌%◌, ◌^◌, ◌<◌, List, [], ◌∷◌, map, slice_index, shr-shr, refl, sym, ap, ap₂, ◌∙◌, arith, ◌==◌}
 use Rattle.std.specs.Int.{bit_at, to_le_bytes, w128}
 use Rattle.std.proofs.Math.Nat.{zero-div}

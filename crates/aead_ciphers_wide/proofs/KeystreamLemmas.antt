@@ -1,4 +1,5 @@
 -- A block that is added to a block of keystream in place.
+-- The keystream is added to the text as it is unpacked, so the text of a batch is not copied.
 use Rattle.std.proofs.Common.{◌≡◌, ℕ, ◌+◌, ◌*◌, ◌≤◌, List, ◌++◌, length, drop, bit_xor, append-nil, refl, sym, subst, ap, ap₂, ◌∙◌, arith, length-drop}
 use Rattle.std.specs.Simd.Lanes.{chunk, put_chunk}
 use Rattle.std.proofs.lemmas.List.{nil_from_length}

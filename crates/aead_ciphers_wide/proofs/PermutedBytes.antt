@@ -1,13 +1,13 @@
--- The S-box by look-ups in tables of 16 bytes, in each lane.
-use Rattle.std.proofs.Common.{◌≡◌, ℕ, ◌+◌, ◌-◌, ◌*◌, ◌/◌, ◌%◌, ◌^◌, ◌<◌, ◌≤◌, ◌⊎◌, Bool, true, false, ◌||◌, T, cond, ltb, leb, inl, inr, List, length, map, get_or, replicate, slice_index, bit_and, bit_xor, Fits, w8, refl, sym, ap, ◌∙◌, arith, ◌==◌, find, unwrap_or, ltb-true, leb-true, lt-ltb, le-leb, subst}
+-- The S-box by look-ups in tables of 16 bytes, in each lane: a function of one byte, which is computed at all 256.
+use Rattle.std.proofs.Common.{◌≡◌, ℕ, zero, suc, ◌+◌, ◌-◌, ◌*◌, ◌/◌, ◌%◌, ◌^◌, ◌<◌, ◌≤◌, ◌⊎◌, Bool, true, false, ◌&&◌, ◌||◌, T, cond, ltb, leb, inl, inr, List, length, map, get_or, replicate, slice_index, bit_and, bit_xor, Fits, w8, refl, sym, ap, ◌∙◌, arith, ◌==◌, find, unwrap_or, ltb-true, leb-true, lt-ltb, le-leb, subst}
 use Rattle.std.specs.List.{range_with_len}
 use Rattle.std.specs.Simd.Lanes.{zip2, Each1}
-use Rattle.std.proofs.lemmas.Bool.{or_cases}
+use Rattle.std.proofs.lemmas.Bool.{and_parts, eqb-true, or_cases}
 use Rattle.std.proofs.lemmas.List.{get_or-map, get_or_past, length-map, ext_get_or}
 use Rattle.std.proofs.lemmas.Simd.{Each1-get_or, Each1-from_get_or, SwzOk, SwzOk-from_Each1, get_or-swz_l, length-swz_l, map-map, splat_is_map, swz_l, zip2_of_maps}
-use Rattle.aead_ciphers_base.specs.ByteField.{affine, mul8, sbox}
-use Rattle.aead_ciphers_base.proofs.NumberBits.{all_below, all_below_at, same_below}
-use Rattle.aead_ciphers_base.proofs.ByteFieldLaws.{field, by_fast_mul8}
+use Rattle.aead_ciphers_base.specs.ByteField.{affine, inv, mul8, sbox}
+use Rattle.aead_ciphers_base.proofs.NumberBits.{all_below, all_below_at, by_digit}
+use Rattle.aead_ciphers_base.proofs.ByteFieldLaws.{by_fast_mul8, inv_is, two_is}
 use Rattle.aead_ciphers_wide.specs.declared.aes.permuted.TheConstants.{LOW_DIGITS, HIGH_DIGITS, INVERSES, SCALED_INVERSES, FROM_IO, FROM_JO}
 
 -- ---- one look-up
@@ -86,21 +86,45 @@ jo_of b = bit_xor (slice_index INVERSES (of_j_of b)) (i_of b)
 abbrev out_of : ℕ → ℕ
 out_of b = bit_xor (bit_xor (slice_index FROM_IO (io_of b)) (slice_index FROM_JO (jo_of b))) 0x63
 
--- the S-box, for any product
-abbrev sbox_by : (ℕ → ℕ → ℕ) → ℕ → ℕ
-sbox_by mul x = affine (unwrap_or (find (λ y. mul x y == 1) (range_with_len 0 256)) 0)
+-- a byte whose bits are turned by n places, and the inverse of the affine transformation
+abbrev turned : ℕ → ℕ → ℕ
+turned x n = x * 2 ^ n % 2 ^ 8 + x / 2 ^ (8 - n)
 
-out_test : all_below (λ b. out_of b == sbox b) 256 ≡ true
-unfolding field sbox
-out_test = by_fast_mul8 (λ mul. all_below (λ b. out_of b == sbox_by mul b) 256) refl
+abbrev affine_back : ℕ → ℕ
+affine_back x = bit_xor (bit_xor (bit_xor (turned x 1) (turned x 3)) (turned x 6)) 0x05 % 256
+
+-- the result is the affine transformation of a byte whose product with b is 1
+abbrev is_sbox : (ℕ → ℕ → ℕ) → ℕ → Bool
+is_sbox mul b =
+    let y = affine_back (out_of b) in
+    mul b y == 1 && affine y == out_of b
+
+out_test : all_below (λ b. is_sbox mul8 (suc b)) 255 ≡ true
+unfolding affine
+out_test = by_fast_mul8 (λ mul. all_below (λ b. is_sbox mul (suc b)) 255) refl
+
+-- 0 has no inverse
+none_test : (out_of 0 == sbox 0) ≡ true
+unfolding inv affine sbox
+none_test = by_fast_mul8 (λ mul. out_of 0 == affine (unwrap_or (find (λ y. mul 0 y == 1) (range_with_len 0 256)) 0)) refl
+
+out_sbox : (b : ℕ) → b < 256 → out_of b ≡ sbox b
+unfolding sbox
+out_sbox zero h = eqb-true _ _ none_test
+out_sbox (suc b) h =
+    let y = affine_back (out_of (suc b)) in
+    let both = and_parts (mul8 (suc b) y == 1) _ (all_below_at (λ b. is_sbox mul8 (suc b)) 255 b out_test (omega arith)) in
+    sym (ap affine (inv_is (suc b) y (omega arith) (eqb-true _ 1 both.0)) ∙ eqb-true (affine y) _ both.1)
 
 -- the product by {02}
 abbrev twice_of : ℕ → ℕ
 twice_of b = bit_xor (b * 2 ^ 1 % 2 ^ 8) (bit_and ((0 + (2 ^ 8 - b / 2 ^ 7)) % 2 ^ 8) 0x1b)
 
-twice_test : all_below (λ b. twice_of b == mul8 2 b) 256 ≡ true
-unfolding field
-twice_test = refl
+twice_is : (b : ℕ) → b < 256 → twice_of b ≡ mul8 2 b
+twice_is b h =
+    ap (bit_xor (b * 2 ^ 1 % 2 ^ 8))
+    (by_digit (λ d. bit_and ((0 + (2 ^ 8 - d)) % 2 ^ 8) 0x1b ≡ d * 0x1b) (b / 2 ^ 7) (omega arith) (λ _. refl) (λ _. refl))
+    ∙ two_is b h
 
 -- ---- each lane
 
@@ -120,13 +144,13 @@ module _ (v : List ℕ) (fits : IsVector v) where
       let here : slice_index js i ≡ g b = ap (λ l. slice_index l i) e ∙ get_or-map g v i 0 0 (omega (arith, fits.0)) in
       subst IsPlace (sym here) (place_of (g b) (all_below_at (λ b. is_place (g b)) 256 b test (byte_at v fits i h)))
 
-  maps_same : (f g : ℕ → ℕ) → all_below (λ b. f b == g b) 256 ≡ true → map f v ≡ map g v
-  maps_same f g test =
+  maps_same : (f g : ℕ → ℕ) → ((b : ℕ) → b < 256 → f b ≡ g b) → map f v ≡ map g v
+  maps_same f g same =
       ext_get_or 0 _ _ (length-map v f ∙ sym (length-map v g))
       (λ i h.
       let lt : i < length v = omega (arith, length-map v f) in
       get_or-map f v i 0 0 lt
-      ∙ same_below f g 256 (slice_index v i) test (byte_at v fits i (omega (arith, fits.0)))
+      ∙ same (slice_index v i) (byte_at v fits i (omega (arith, fits.0)))
       ∙ sym (get_or-map g v i 0 0 lt))
 
   looked : (table : List ℕ) (g : ℕ → ℕ) {js : List ℕ} → js ≡ map g v → map (slice_index table) js ≡ map (λ b. slice_index table (g b)) v
@@ -147,92 +171,83 @@ module _ (v : List ℕ) (fits : IsVector v) where
   high_places_is : zip2 shr v (replicate 16 4) ≡ map (λ b. b / 2 ^ 4) v
   high_places_is = with_all shr (λ b. b) 4 same
 
-  abbrev x_v : List ℕ
-  x_v = zip2 bit_xor (map (slice_index LOW_DIGITS) (zip2 bit_and v (replicate 16 15))) (map (slice_index HIGH_DIGITS) (zip2 shr v (replicate 16 4)))
-
-  x_is : x_v ≡ map x_of v
-  x_is = zip2_of_maps bit_xor _ _ v (looked LOW_DIGITS _ low_places_is) (looked HIGH_DIGITS _ high_places_is)
-
-  abbrev k_v : List ℕ
-  k_v = zip2 bit_and x_v (replicate 16 15)
-
-  k_is : k_v ≡ map k_of v
-  k_is = with_all bit_and x_of 15 x_is
-
-  abbrev i_v : List ℕ
-  i_v = zip2 shr x_v (replicate 16 4)
-
-  i_is : i_v ≡ map i_of v
-  i_is = with_all shr x_of 4 x_is
-
-  abbrev j_v : List ℕ
-  j_v = zip2 bit_xor i_v k_v
-
-  j_is : j_v ≡ map j_of v
-  j_is = zip2_of_maps bit_xor i_of k_of v i_is k_is
-
-  abbrev scaled_v : List ℕ
-  scaled_v = map (slice_index SCALED_INVERSES) k_v
-
-  scaled_is : scaled_v ≡ map scaled_of v
-  scaled_is = looked SCALED_INVERSES k_of k_is
-
-  abbrev of_i_v : List ℕ
-  of_i_v = zip2 bit_xor (map (slice_index INVERSES) i_v) scaled_v
-
-  of_i_is : of_i_v ≡ map of_i_of v
-  of_i_is = zip2_of_maps bit_xor _ scaled_of v (looked INVERSES i_of i_is) scaled_is
-
-  abbrev of_j_v : List ℕ
-  of_j_v = zip2 bit_xor (map (slice_index INVERSES) j_v) scaled_v
-
-  of_j_is : of_j_v ≡ map of_j_of v
-  of_j_is = zip2_of_maps bit_xor _ scaled_of v (looked INVERSES j_of j_is) scaled_is
-
-  abbrev io_v : List ℕ
-  io_v = zip2 bit_xor (map (slice_index INVERSES) of_i_v) j_v
-
-  io_is : io_v ≡ map io_of v
-  io_is = zip2_of_maps bit_xor _ j_of v (looked INVERSES of_i_of of_i_is) j_is
-
-  abbrev jo_v : List ℕ
-  jo_v = zip2 bit_xor (map (slice_index INVERSES) of_j_v) i_v
-
-  jo_is : jo_v ≡ map jo_of v
-  jo_is = zip2_of_maps bit_xor _ i_of v (looked INVERSES of_j_of of_j_is) i_is
-
-  out_is : zip2 bit_xor (zip2 bit_xor (map (slice_index FROM_IO) io_v) (map (slice_index FROM_JO) jo_v)) (replicate 16 0x63) ≡ map out_of v
-  out_is = with_all bit_xor _ 0x63 (zip2_of_maps bit_xor _ _ v (looked FROM_IO io_of io_is) (looked FROM_JO jo_of jo_is))
-
   pub low_places : (i : ℕ) → i < 16 → IsPlace (slice_index (zip2 bit_and v (replicate 16 15)) i)
   low_places = places (λ b. bit_and b 15) _ low_places_is refl
 
   pub high_places : (i : ℕ) → i < 16 → IsPlace (slice_index (zip2 shr v (replicate 16 4)) i)
   high_places = places (λ b. b / 2 ^ 4) _ high_places_is refl
 
-  pub k_places : (i : ℕ) → i < 16 → IsPlace (slice_index k_v i)
-  k_places = places k_of _ k_is refl
+  -- the results of the look-ups, of which each has its equation
+  module _ {low high : List ℕ} (is_low : low ≡ map (slice_index LOW_DIGITS) (zip2 bit_and v (replicate 16 15)))
+      (is_high : high ≡ map (slice_index HIGH_DIGITS) (zip2 shr v (replicate 16 4))) where
+    x_is : zip2 bit_xor low high ≡ map x_of v
+    x_is = zip2_of_maps bit_xor _ _ v (is_low ∙ looked LOW_DIGITS _ low_places_is) (is_high ∙ looked HIGH_DIGITS _ high_places_is)
 
-  pub i_places : (i : ℕ) → i < 16 → IsPlace (slice_index i_v i)
-  i_places = places i_of _ i_is refl
+    abbrev k_v : List ℕ
+    k_v = zip2 bit_and (zip2 bit_xor low high) (replicate 16 15)
 
-  pub j_places : (i : ℕ) → i < 16 → IsPlace (slice_index j_v i)
-  j_places = places j_of _ j_is refl
+    k_is : k_v ≡ map k_of v
+    k_is = with_all bit_and x_of 15 x_is
 
-  pub of_i_places : (i : ℕ) → i < 16 → IsPlace (slice_index of_i_v i)
-  of_i_places = places of_i_of _ of_i_is refl
+    abbrev i_v : List ℕ
+    i_v = zip2 shr (zip2 bit_xor low high) (replicate 16 4)
 
-  pub of_j_places : (i : ℕ) → i < 16 → IsPlace (slice_index of_j_v i)
-  of_j_places = places of_j_of _ of_j_is refl
+    i_is : i_v ≡ map i_of v
+    i_is = with_all shr x_of 4 x_is
 
-  pub io_places : (i : ℕ) → i < 16 → IsPlace (slice_index io_v i)
-  io_places = places io_of _ io_is refl
+    abbrev j_v : List ℕ
+    j_v = zip2 bit_xor i_v k_v
 
-  pub jo_places : (i : ℕ) → i < 16 → IsPlace (slice_index jo_v i)
-  jo_places = places jo_of _ jo_is refl
+    j_is : j_v ≡ map j_of v
+    j_is = zip2_of_maps bit_xor i_of k_of v i_is k_is
 
-  pub sub_each_is : zip2 bit_xor (zip2 bit_xor (map (slice_index FROM_IO) io_v) (map (slice_index FROM_JO) jo_v)) (replicate 16 0x63) ≡ map sbox v
-  sub_each_is = out_is ∙ maps_same out_of sbox out_test
+    pub k_places : (i : ℕ) → i < 16 → IsPlace (slice_index k_v i)
+    k_places = places k_of _ k_is refl
+
+    pub i_places : (i : ℕ) → i < 16 → IsPlace (slice_index i_v i)
+    i_places = places i_of _ i_is refl
+
+    pub j_places : (i : ℕ) → i < 16 → IsPlace (slice_index j_v i)
+    j_places = places j_of _ j_is refl
+
+    module _ {scaled inverse_i inverse_j : List ℕ} (is_scaled : scaled ≡ map (slice_index SCALED_INVERSES) k_v)
+        (is_i : inverse_i ≡ map (slice_index INVERSES) i_v) (is_j : inverse_j ≡ map (slice_index INVERSES) j_v) where
+      scaled_is : scaled ≡ map scaled_of v
+      scaled_is = is_scaled ∙ looked SCALED_INVERSES k_of k_is
+
+      of_i_is : zip2 bit_xor inverse_i scaled ≡ map of_i_of v
+      of_i_is = zip2_of_maps bit_xor _ scaled_of v (is_i ∙ looked INVERSES i_of i_is) scaled_is
+
+      of_j_is : zip2 bit_xor inverse_j scaled ≡ map of_j_of v
+      of_j_is = zip2_of_maps bit_xor _ scaled_of v (is_j ∙ looked INVERSES j_of j_is) scaled_is
+
+      pub of_i_places : (i : ℕ) → i < 16 → IsPlace (slice_index (zip2 bit_xor inverse_i scaled) i)
+      of_i_places = places of_i_of _ of_i_is refl
+
+      pub of_j_places : (i : ℕ) → i < 16 → IsPlace (slice_index (zip2 bit_xor inverse_j scaled) i)
+      of_j_places = places of_j_of _ of_j_is refl
+
+      module _ {inverse_of_i inverse_of_j : List ℕ} (is_of_i : inverse_of_i ≡ map (slice_index INVERSES) (zip2 bit_xor inverse_i scaled))
+          (is_of_j : inverse_of_j ≡ map (slice_index INVERSES) (zip2 bit_xor inverse_j scaled)) where
+        io_is : zip2 bit_xor inverse_of_i j_v ≡ map io_of v
+        io_is = zip2_of_maps bit_xor _ j_of v (is_of_i ∙ looked INVERSES of_i_of of_i_is) j_is
+
+        jo_is : zip2 bit_xor inverse_of_j i_v ≡ map jo_of v
+        jo_is = zip2_of_maps bit_xor _ i_of v (is_of_j ∙ looked INVERSES of_j_of of_j_is) i_is
+
+        pub io_places : (i : ℕ) → i < 16 → IsPlace (slice_index (zip2 bit_xor inverse_of_i j_v) i)
+        io_places = places io_of _ io_is refl
+
+        pub jo_places : (i : ℕ) → i < 16 → IsPlace (slice_index (zip2 bit_xor inverse_of_j i_v) i)
+        jo_places = places jo_of _ jo_is refl
+
+        pub sub_each_is : {from_io from_jo : List ℕ} → from_io ≡ map (slice_index FROM_IO) (zip2 bit_xor inverse_of_i j_v)
+            → from_jo ≡ map (slice_index FROM_JO) (zip2 bit_xor inverse_of_j i_v)
+            → zip2 bit_xor (zip2 bit_xor from_io from_jo) (replicate 16 0x63) ≡ map sbox v
+        sub_each_is is_io is_jo =
+            with_all bit_xor _ 0x63
+            (zip2_of_maps bit_xor _ _ v (is_io ∙ looked FROM_IO io_of io_is) (is_jo ∙ looked FROM_JO jo_of jo_is))
+            ∙ maps_same out_of sbox out_sbox
 
   -- ---- the product by {02}
 
@@ -247,4 +262,4 @@ module _ (v : List ℕ) (fits : IsVector v) where
   times_x_is =
       zip2_of_maps bit_xor _ _ v (with_all shl (λ b. b) 1 same)
       (with_all bit_and _ 0x1b (zip2_of_maps less (λ _. 0) _ v (splat_is_map v 16 0 fits.0) (with_all shr (λ b. b) 7 same)))
-      ∙ maps_same twice_of (mul8 2) twice_test
+      ∙ maps_same twice_of (mul8 2) twice_is

@@ -1,4 +1,5 @@
 -- A message that is sealed in pieces: what a piece adds, pieces in a row, and the tag at the end.
+-- Its ciphertext is whole batches, which are hashed, and a rest, which `batch` keeps before the keystream that is left.
 use Rattle.std.proofs.Common.{◌≡◌, ℕ, ◌+◌, ◌-◌, ◌*◌, ◌/◌, ◌%◌, ◌^◌, ◌<◌, ◌≤◌, List, [], ◌∷◌, ◌++◌, length, take, drop, replicate, get_or, refl, sym, ap, ap₂, subst, ◌∙◌, arith, inl, inr, append_assoc, append-nil, length-append, length-drop, length-take-le, take_all, take_at, drop_at, drop-drop}
 use Rattle.std.proofs.lemmas.List.{drop_all, get_or-drop, nil_from_length}
 use Rattle.std.proofs.lemmas.Bool.{cases_lt}

@@ -124,7 +124,6 @@ fn encrypt_up_to_sixteen(
 }
 
 /// Encrypts the `count` blocks from `start` on, at most four, two at a time, by byte permutes, and writes them to the front.
-#[tactic(auto, using(aead_ciphers_base::proofs::CounterModeLemmas::encrypts_all))]
 #[inline(never)]
 fn encrypt_few(
     key: &BlockKeyRef<'_>,

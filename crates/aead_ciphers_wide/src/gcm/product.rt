@@ -4,6 +4,12 @@
 //! product is a sum of 32 products, of which the table has 16 for each place of a digit. Its rows are in the
 //! order of their bytes: a look-up in a row gives one byte of the products of all 16 digits at once. The rows'
 //! bytes are added up from the last row on, moved by one place for each row.
+//!
+//! What was measured: two blocks, with a second table for the square of the subkey, take two thirds of the time of two products,
+//! and about seven blocks regain the time of making that table. Rows are looked up, 16 bytes at a time, in the multiples of the
+//! subkey: bytes moved one by one took 2.5 times as long, and doubling on vectors in place of `u128` gained 1 % of a key. On a
+//! `u128` in scalar registers the reduction took 1.14 times as long. It is byte by byte: in two lanes of 64 bits it took more
+//! instructions on ARM64, and as many on x86-64-v3.
 
 ghost use Rattle.std.specs.Prelude.{◌≡◌, ℕ, ◌+◌, ◌/◌, ◌%◌, ◌<◌, ◌≤◌, ◌==◌, bit_xor, if◌then◌else◌, [], ◌∷◌, slice_index, slice_index_or};
 ghost use Rattle.std.specs.Int.{to_be_bytes, w128};

@@ -9,43 +9,33 @@ pub look_up-high-requires : goal.look_up-high-requires
 look_up-high-requires c = high_places c.args.bytes c.fits-bytes
 
 pub look_up-scaled-requires : goal.look_up-scaled-requires
-look_up-scaled-requires c = rw (c.look_up-low.ensures, c.look_up-high.ensures) (k_places c.args.bytes c.fits-bytes)
+look_up-scaled-requires c = k_places c.args.bytes c.fits-bytes c.look_up-low.ensures c.look_up-high.ensures
 
 pub look_up-requires : goal.look_up-requires
-look_up-requires c = rw (c.look_up-low.ensures, c.look_up-high.ensures) (i_places c.args.bytes c.fits-bytes)
+look_up-requires c = i_places c.args.bytes c.fits-bytes c.look_up-low.ensures c.look_up-high.ensures
 
 pub look_up-requires-2 : goal.look_up-requires-2
-look_up-requires-2 c = rw (c.look_up-low.ensures, c.look_up-high.ensures) (j_places c.args.bytes c.fits-bytes)
+look_up-requires-2 c = j_places c.args.bytes c.fits-bytes c.look_up-low.ensures c.look_up-high.ensures
 
 pub look_up-requires-3 : goal.look_up-requires-3
 look_up-requires-3 c =
-    rw (c.look_up.ensures, c.look_up-scaled.ensures, c.look_up-low.ensures, c.look_up-high.ensures) (of_i_places c.args.bytes c.fits-bytes)
+    of_i_places c.args.bytes c.fits-bytes c.look_up-low.ensures c.look_up-high.ensures c.look_up-scaled.ensures c.look_up.ensures c.look_up-2.ensures
 
 pub look_up-requires-4 : goal.look_up-requires-4
 look_up-requires-4 c =
-    rw (c.look_up-2.ensures, c.look_up-scaled.ensures, c.look_up-low.ensures, c.look_up-high.ensures) (of_j_places c.args.bytes c.fits-bytes)
+    of_j_places c.args.bytes c.fits-bytes c.look_up-low.ensures c.look_up-high.ensures c.look_up-scaled.ensures c.look_up.ensures c.look_up-2.ensures
 
 pub look_up-requires-5 : goal.look_up-requires-5
 look_up-requires-5 c =
-    rw (c.look_up-3.ensures, c.look_up.ensures, c.look_up-scaled.ensures, c.look_up-low.ensures, c.look_up-high.ensures)
-    (io_places c.args.bytes c.fits-bytes)
+    io_places c.args.bytes c.fits-bytes c.look_up-low.ensures c.look_up-high.ensures c.look_up-scaled.ensures c.look_up.ensures c.look_up-2.ensures
+    c.look_up-3.ensures c.look_up-4.ensures
 
 pub look_up-requires-6 : goal.look_up-requires-6
 look_up-requires-6 c =
-    rw (c.look_up-4.ensures, c.look_up-2.ensures, c.look_up-scaled.ensures, c.look_up-low.ensures, c.look_up-high.ensures)
-    (jo_places c.args.bytes c.fits-bytes)
+    jo_places c.args.bytes c.fits-bytes c.look_up-low.ensures c.look_up-high.ensures c.look_up-scaled.ensures c.look_up.ensures c.look_up-2.ensures
+    c.look_up-3.ensures c.look_up-4.ensures
 
 pub returns : goal.returns
 returns c =
-    rw (
-      c.look_up-5.ensures,
-      c.look_up-6.ensures,
-      c.look_up-3.ensures,
-      c.look_up-4.ensures,
-      c.look_up.ensures,
-      c.look_up-2.ensures,
-      c.look_up-scaled.ensures,
-      c.look_up-low.ensures,
-      c.look_up-high.ensures,
-    )
-    (sub_each_is c.args.bytes c.fits-bytes)
+    sub_each_is c.args.bytes c.fits-bytes c.look_up-low.ensures c.look_up-high.ensures c.look_up-scaled.ensures c.look_up.ensures c.look_up-2.ensures
+    c.look_up-3.ensures c.look_up-4.ensures c.look_up-5.ensures c.look_up-6.ensures

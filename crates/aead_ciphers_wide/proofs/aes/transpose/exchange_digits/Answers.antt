@@ -1,4 +1,5 @@
-use Rattle.std.proofs.Common.{◌≡◌, ℕ, ◌+◌, ◌-◌, ◌*◌, ◌^◌, ◌<◌, ◌==◌, if◌then◌else◌, [], ◌∷◌, sym, ap, ap₂, ◌∙◌, slice_index, map, arith}
+use Rattle.std.proofs.Common.{◌≡◌, ℕ, ◌+◌, ◌-◌, ◌*◌, ◌^◌, ◌<◌, ◌==◌, if◌then◌else◌, [], ◌∷◌, length, sym, subst, ap, ap₂, ◌∙◌, slice_index, map, arith}
+use Rattle.std.proofs.Math.Dec.{lit<}
 use Rattle.std.specs.Int.{bit_at}
 use Rattle.std.proofs.lemmas.List.{get_or-map}
 use Rattle.aead_ciphers_wide.specs.Word.{lane_of, lanes_of}
@@ -13,14 +14,16 @@ returns g c = λ j n hj hn.
     let k = c.args.k in
     let words = map number c.args.words in
     let w = slice_index (lanes_of j words) in
-    let w0 = ap (lane_of j) (sym (get_or-map number c.args.words 0 c.index-words-0.result 0 (omega arith))) ∙ sym (lanes_at j words 0) in
-    let w1 = ap (lane_of j) (sym (get_or-map number c.args.words 1 c.index-words-1.result 0 (omega arith))) ∙ sym (lanes_at j words 1) in
-    let w2 = ap (lane_of j) (sym (get_or-map number c.args.words 2 c.index-words-2.result 0 (omega arith))) ∙ sym (lanes_at j words 2) in
-    let w3 = ap (lane_of j) (sym (get_or-map number c.args.words 3 c.index-words-3.result 0 (omega arith))) ∙ sym (lanes_at j words 3) in
-    let w4 = ap (lane_of j) (sym (get_or-map number c.args.words 4 c.index-words-4.result 0 (omega arith))) ∙ sym (lanes_at j words 4) in
-    let w5 = ap (lane_of j) (sym (get_or-map number c.args.words 5 c.index-words-5.result 0 (omega arith))) ∙ sym (lanes_at j words 5) in
-    let w6 = ap (lane_of j) (sym (get_or-map number c.args.words 6 c.index-words-6.result 0 (omega arith))) ∙ sym (lanes_at j words 6) in
-    let w7 = ap (lane_of j) (sym (get_or-map number c.args.words 7 c.index-words-7.result 0 (omega arith))) ∙ sym (lanes_at j words 7) in
+    let size : length c.args.words ≡ 8 = omega arith in
+    let within = λ (i : ℕ) (h : i < 8). subst (λ z. i < z) (sym size) h in
+    let w0 = ap (lane_of j) (sym (get_or-map number c.args.words 0 c.index-words-0.result 0 (within 0 (lit< tt)))) ∙ sym (lanes_at j words 0) in
+    let w1 = ap (lane_of j) (sym (get_or-map number c.args.words 1 c.index-words-1.result 0 (within 1 (lit< tt)))) ∙ sym (lanes_at j words 1) in
+    let w2 = ap (lane_of j) (sym (get_or-map number c.args.words 2 c.index-words-2.result 0 (within 2 (lit< tt)))) ∙ sym (lanes_at j words 2) in
+    let w3 = ap (lane_of j) (sym (get_or-map number c.args.words 3 c.index-words-3.result 0 (within 3 (lit< tt)))) ∙ sym (lanes_at j words 3) in
+    let w4 = ap (lane_of j) (sym (get_or-map number c.args.words 4 c.index-words-4.result 0 (within 4 (lit< tt)))) ∙ sym (lanes_at j words 4) in
+    let w5 = ap (lane_of j) (sym (get_or-map number c.args.words 5 c.index-words-5.result 0 (within 5 (lit< tt)))) ∙ sym (lanes_at j words 5) in
+    let w6 = ap (lane_of j) (sym (get_or-map number c.args.words 6 c.index-words-6.result 0 (within 6 (lit< tt)))) ∙ sym (lanes_at j words 6) in
+    let w7 = ap (lane_of j) (sym (get_or-map number c.args.words 7 c.index-words-7.result 0 (within 7 (lit< tt)))) ∙ sym (lanes_at j words 7) in
     let even = λ (q x y : ℕ). if bit_at q k == 0 then bit_at x q else bit_at y (q - 2 ^ k) in
     let odd = λ (q x y : ℕ). if bit_at q k == 0 then bit_at x (q + 2 ^ k) else bit_at y q in
     let r0 = c.delta_swap-r0 in

@@ -1,4 +1,4 @@
-use Rattle.std.proofs.Common.{◌+◌, ◌-◌, ◌≡◌, ◌++◌, take, drop, ap, arith, subst, sym, append-nil, append_assoc, ◌∙◌}
+use Rattle.std.proofs.Common.{◌+◌, ◌-◌, ◌≡◌, ◌++◌, take, drop, ap, arith, subst, sym, append-nil, append_assoc, take_all, ◌∙◌}
 use Rattle.std.proofs.Math.Seq.{take-add}
 use Rattle.aead_ciphers_wide.specs.Pieces.{HasTaken}
 use Rattle.aead_ciphers_wide.proofs.aes_gcm.pieces.PartialHash.take_in.Goals as goal
@@ -33,3 +33,12 @@ loop-done-preserved g c =
           ∙ ap (λ xs. bytes ++ xs) (ap (λ k. take done part ++ take k (drop done part)) many ∙ sym (take-add done n part)))
           (c.take_in_batch.ensures.taken _ (c.loop-done.invariant.taken bytes at));
     }
+
+pub returns-clause-taken : goal.returns-clause-taken
+returns-clause-taken g c = λ bytes at.
+    let part = c.args.part.now in
+    subst (λ xs. HasTaken (g.G.UpdateBlock.hash_subkey c.args.gcm.now) xs c.loop-done.self)
+    (ap (λ xs. bytes ++ xs) (take_all c.loop-done.done part c.loop-done-test.false)) (c.loop-done.invariant.taken bytes at)
+
+pub returns-clause-total : goal.returns-clause-total
+returns-clause-total g c = c.loop-done.invariant.total
