@@ -1,5 +1,5 @@
 -- The bits of the numbers that were received: the words take turns.
-use Rattle.std.proofs.Common.{◌≡◌, ◌≢◌, ℕ, ◌+◌, ◌-◌, ◌*◌, ◌/◌, ◌%◌, ◌<◌, ◌≤◌, ◌↔◌, List, length, get_or, inl, inr, max, sym, ap, ◌∙◌, arith, set}
+use Rattle.std.proofs.Common.{◌≡◌, ◌≢◌, ℕ, ◌+◌, ◌-◌, ◌*◌, ◌/◌, ◌%◌, ◌<◌, ◌≤◌, ◌↔◌, ◌⊎◌, List, length, get_or, inl, inr, max, sym, ap, ap₂, subst, ◌∙◌, arith, set}
 use Rattle.std.proofs.Math.Nat.{mul-le-mul_right}
 use Rattle.std.proofs.lemmas.Bool.{cases_eq, cases_lt}
 use Rattle.std.proofs.lemmas.List.{get_or-set_other, get_or-set_same, length-set}
@@ -97,6 +97,38 @@ left_above next number low old mid new len_mid len_new up is_low cleared kept he
             ];
       },
 )
+
+shared_bit : (seen : List ℕ) (m n : ℕ) → ShareBit (length seen) m n → bit_of seen m ≡ bit_of seen n
+shared_bit seen m n share = ap₂ (λ w b. bit_at (get_or seen w 0) b) share.word share.bit
+
+cases_share : (words m n : ℕ) → ShareBit words m n ⊎ ¬ ShareBit words m n
+cases_share words m n =
+    elim (cases_eq (m / 64 % words) (n / 64 % words)) [
+      | inl word ↦ elim (cases_eq (m % 64) (n % 64)) [
+        | inl bit ↦ inl (record { word = word; bit = bit })
+        | inr other ↦ inr (λ share. other share.bit)
+      ]
+      | inr other ↦ inr (λ share. other share.word)
+    ]
+
+-- one more number of a range whose bits are cleared
+module _ (from number : ℕ) (old mid new : List ℕ) (len_mid : length mid ≡ length old) (len_new : length new ≡ length mid)
+    (here : bit_of new number ≡ 0) (kept : (n : ℕ) → ¬ ShareBit (length mid) n number → bit_of new n ≡ bit_of mid n) where
+  pub cleared_more : ((n : ℕ) → from ≤ n → n < number → bit_of mid n ≡ 0) → (n : ℕ) → from ≤ n → n < number + 1 → bit_of new n ≡ 0
+  cleared_more was n above below =
+      elim (cases_eq n number) [
+        | inl same ↦ ap (bit_of new) same ∙ here
+        | inr other ↦ elim (cases_share (length mid) n number) [
+          | inl share ↦ shared_bit new n number (subst (λ l. ShareBit l n number) (sym len_new) share) ∙ here
+          | inr unshared ↦ kept n unshared ∙ was n above (omega (arith, other))
+        ]
+      ]
+
+  pub others_more : ((n : ℕ) → ((m : ℕ) → from ≤ m → m < number → ¬ ShareBit (length old) n m) → bit_of mid n ≡ bit_of old n) → from ≤ number
+      → (n : ℕ) → ((m : ℕ) → from ≤ m → m < number + 1 → ¬ ShareBit (length old) n m) → bit_of new n ≡ bit_of old n
+  others_more was up n unshared =
+      kept n (subst (λ l. ¬ ShareBit l n number) (sym len_mid) (unshared number up (omega arith)))
+      ∙ was n (λ m from_on below. unshared m from_on (omega arith))
 
 -- a word that is written: the bit of a number, and those that others have
 module _ (seen : List ℕ) (number v : ℕ) (some : 0 < length seen) where
