@@ -1,6 +1,6 @@
 -- What the calls for one chunk say.
 use Rattle.std.proofs
-use proofs.Common.{◌≡◌, ◌↔◌, ℕ, Bool, true, ◌+◌, ◌-◌, ◌≤◌, List, ◌++◌, length, drop, map, get_or, refl, sym, ap, ap₂, ◌∙◌, arith, append_assoc, append-nil, drop-drop, drop_at, length-append, take, take_at}
+use proofs.Common.{◌≡◌, ◌↔◌, ℕ, Bool, true, false, ◌+◌, ◌-◌, ◌<◌, ◌≤◌, List, ◌++◌, length, drop, map, get_or, refl, sym, ap, ap₂, ◌∙◌, arith, append_assoc, append-nil, drop-drop, drop_at, length-append, length-take, take, take-append-drop, take_at}
 use Rattle.std.specs.List.{range_with_len}
 use proofs.lemmas.List.{drop_all}
 use proofs.lemmas.List.FromFn.{fill_by_all}
@@ -43,6 +43,19 @@ same_key w x y z = rw (w, x, y, z)
 pub of_same : (P : ChunkKey → Bool → List ℕ → Type 0) {k k' : ChunkKey} {b d : Bool} {l m : List ℕ} → k ≡ k' → b ≡ d → l ≡ m
     → P k b l → P k' d m
 of_same P e f g h = rw (← e, ← f, ← g) h
+
+-- a sealed chunk in two parts
+pub rejoined : (sealed shown front tag : List ℕ) (len : ℕ) → shown ≡ sealed → tag ≡ drop (length shown - 16) shown → front ≡ take (len - 16) sealed
+    → len ≡ length sealed → front ++ tag ≡ sealed
+rejoined sealed shown front tag len shown_is tag_is front_is len_is =
+    rw (front_is, tag_is, shown_is, len_is) (take-append-drop (length sealed - 16) sealed)
+
+pub length-ciphertext : (sealed : List ℕ) → length (ciphertext_of sealed) ≡ length sealed - 16
+length-ciphertext sealed = omega (arith, length-take (length sealed - 16) sealed)
+
+-- one that is too short has no tag
+pub has_none : (k : ChunkKey) (number : ℕ) (is_last : Bool) (sealed : List ℕ) → length sealed < 16 → (false ≡ true) ↔ HasTag k number is_last sealed
+has_none k number is_last sealed short = (λ never. absurd (cc never), λ had. let size = had.size in absurd (omega arith))
 
 -- a ciphertext and its tag
 module _ (ciphertext received : List ℕ) (sixteen : length received ≡ 16) where

@@ -1,6 +1,7 @@
 -- A sealed file is one, and opening it gives the file.
-use Rattle.std.proofs.Common.{◌≡◌, ℕ, Bool, ◌+◌, ◌-◌, ◌*◌, ◌^◌, ◌<◌, ◌≤◌, List, ◌++◌, length, drop, refl, sym, ap, subst, ◌∙◌, arith, ◌==◌, drop_at, length-append, length-drop, length-take, take_at}
+use Rattle.std.proofs.Common.{◌≡◌, ℕ, Bool, ◌+◌, ◌-◌, ◌*◌, ◌^◌, ◌<◌, ◌≤◌, List, ◌++◌, length, refl, sym, ap, subst, ◌∙◌, arith, ◌==◌, drop_at, length-append, take_at}
 use Rattle.std.specs.List.{concat}
+use Rattle.std.proofs.Math.Dec.{lit<}
 use Rattle.aead_ciphers_base.specs
 use specs.Bytes.{each_below}
 use Rattle.aead_ciphers_base.proofs.EachLemmas.{each-same}
@@ -11,7 +12,7 @@ use Rattle.sealed_file.specs.Opening.{HasHeader, HasTag, IsSealed, body_of, chun
 use Rattle.sealed_file.proofs
 use proofs.ChunkLemmas.{front_is, has_tag, of_same}
 use proofs.HeaderLemmas.{IsHeaderOf}
-use proofs.PieceLemmas.{all_pieces, last_of_joined, length-all, length-piece, length-piece-le, piece_of_joined}
+use proofs.PieceLemmas.{all_pieces, last_of_joined, last_piece-at, length-all, length-last_piece, length-piece, length-piece-le, piece_of_joined}
 use Rattle.aead_ciphers.proofs.MessageLaws.{length-aes_sealed, length-aes_tag, decrypted-encrypted}
 
 module _ (k : ChunkKey) (number : ℕ) (flag : Bool) (chunk : List ℕ) where
@@ -41,6 +42,25 @@ module _ (k : ChunkKey) (number : ℕ) (flag : Bool) (chunk : List ℕ) where
 abbrev pub last_of : List ℕ → ℕ
 last_of file = last_piece chunk_len (length file)
 
+-- ---- lengths
+
+-- a chunk of n bytes is sealed in m
+sealed_short : (n m : ℕ) → n ≤ chunk_len → m ≡ n + 16 → m ≤ sealed_chunk_len
+sealed_short n m h m_is = omega arith
+
+sealed_some : (n m : ℕ) → m ≡ n + 16 → 0 < m
+sealed_some n m m_is = omega arith
+
+-- the sealed chunks of a file of n bytes, and with the header
+chunks_len : (n last : ℕ) → chunk_len * last ≤ n → sealed_chunk_len * last + (n - chunk_len * last + 16) ≡ n + (last + 1) * 16
+chunks_len n last h = omega arith
+
+file_len : (header n tags : ℕ) → header + (n + tags) ≡ header + n + tags
+file_len header n tags = omega arith
+
+pub at_most : (i n m : ℕ) → i < n + 1 → n ≡ m → i ≤ m
+at_most i n m h e = omega arith
+
 module _ (k : ChunkKey) (file : List ℕ) where
   pub length-sealed_chunk_of : (i : ℕ) → length (sealed_chunk_of k file i) ≡ length (piece chunk_len file i) + 16
   length-sealed_chunk_of i = length-sealed_chunk k i (i == last_of file) (piece chunk_len file i)
@@ -55,28 +75,28 @@ module _ (k : ChunkKey) (file : List ℕ) where
   chunks = concat (each_below (last + 1) (sealed_chunk_of k file))
 
   whole_before : (i : ℕ) → i < last → length (sealed_chunk_of k file i) ≡ sealed_chunk_len
-  whole_before i before = length-sealed_chunk_of i ∙ (let h = length-piece chunk_len file i (omega arith) before in omega (arith, h))
+  whole_before i before = length-sealed_chunk_of i ∙ ap (λ n. n + 16) (length-piece chunk_len file i (lit< tt) before)
 
   last_is_short : length (sealed_chunk_of k file last) ≤ sealed_chunk_len
-  last_is_short = omega (arith, length-piece-le chunk_len file last, length-sealed_chunk_of last)
+  last_is_short = sealed_short _ _ (length-piece-le chunk_len file last) (length-sealed_chunk_of last)
 
   whole_is : whole ≡ k.header ++ chunks
   unfolding sealed_chunks
   whole_is = refl
 
   length-chunks : length chunks ≡ length file + (last + 1) * 16
-  length-chunks =
-      omega (
-        arith,
-        length-all sealed_chunk_len (sealed_chunk_of k file) last whole_before,
-        length-sealed_chunk_of last,
-        length-take chunk_len (drop (chunk_len * last) file),
-        length-drop (chunk_len * last) file,
-      )
+  length-chunks = length-all sealed_chunk_len (sealed_chunk_of k file) last whole_before
+      ∙ ap (λ n. sealed_chunk_len * last + n) (length-sealed_chunk_of last ∙ ap (λ n. n + 16) (length-last_piece chunk_len file (lit< tt)))
+      ∙ chunks_len (length file) last (last_piece-at chunk_len (length file))
 
   -- the file's bytes, the header's, and 16 more for each chunk
   pub length-sealed_file : length whole ≡ length k.header + length file + (last + 1) * 16
-  length-sealed_file = omega (arith, ap length whole_is, length-append k.header chunks, length-chunks)
+  length-sealed_file = ap length whole_is ∙ length-append k.header chunks ∙ ap (λ n. length k.header + n) length-chunks
+      ∙ file_len (length k.header) (length file) ((last + 1) * 16)
+
+  pub sealed_len : (n : ℕ) → length k.header ≡ 60 → n ≡ last → 60 + length file + (n + 1) * 16 ≡ length whole
+  sealed_len n size n_is = ap (λ m. m + length file + (n + 1) * 16) (sym size)
+      ∙ ap (λ m. length k.header + length file + (m + 1) * 16) n_is ∙ sym length-sealed_file
 
   module _ (key : Secret) (h : IsHeaderOf key k) where
     body_is : body_of whole ≡ chunks
@@ -91,7 +111,7 @@ module _ (k : ChunkKey) (file : List ℕ) where
     last_is : last_chunk whole ≡ last
     last_is = ap (λ l. last_piece sealed_chunk_len (length l)) body_is
         ∙ last_of_joined sealed_chunk_len (sealed_chunk_of k file) last whole_before last_is_short
-        (omega (arith, length-sealed_chunk_of last))
+        (sealed_some _ _ (length-sealed_chunk_of last))
 
     piece_is : (i : ℕ) → i ≤ last → chunk_of whole i ≡ sealed_chunk_of k file i
     piece_is i within = ap (λ l. piece sealed_chunk_len l i) body_is
@@ -101,7 +121,7 @@ module _ (k : ChunkKey) (file : List ℕ) where
     of_sealed : (P : ChunkKey → Bool → List ℕ → Type 0) (i : ℕ) → i < last_chunk whole + 1 → P k (i == last) (sealed_chunk_of k file i)
         → P (key_of key whole) (i == last_chunk whole) (chunk_of whole i)
     of_sealed P i within = of_same P (sym key_is) (ap (λ n. i == n) (sym last_is))
-        (sym (piece_is i (omega (arith, last_is))))
+        (sym (piece_is i (at_most i (last_chunk whole) last within last_is)))
 
     pub sealed_is_sealed : last < 2 ^ 32 - 1 → IsSealed key whole
     sealed_is_sealed few = record {
@@ -119,4 +139,4 @@ module _ (k : ChunkKey) (file : List ℕ) where
         (λ i. opened_chunk (key_of key whole) i (i == last_chunk whole) (chunk_of whole i))
         (piece chunk_len file) (λ i within. of_sealed (λ p b l. opened_chunk p i b l ≡ piece chunk_len file i) i within
         (opened_sealed_chunk k i (i == last) (piece chunk_len file i))))
-        ∙ ap (λ n. concat (each_below (n + 1) (piece chunk_len file))) last_is ∙ all_pieces chunk_len file (omega arith)
+        ∙ ap (λ n. concat (each_below (n + 1) (piece chunk_len file))) last_is ∙ all_pieces chunk_len file (lit< tt)

@@ -1,5 +1,5 @@
 -- The steps of opening.
-use Rattle.std.proofs.Common.{◌≡◌, ℕ, Result, Ok, Err, IfErr, IsOk, is_err, Bool, true, false, inl, inr, IfSome, ◌+◌, ◌-◌, ◌*◌, ◌^◌, ◌<◌, ◌≤◌, List, [], ◌++◌, length, drop, sym, ap, subst, ◌∙◌, arith, below_more, ◌==◌, Option, eqb-true, append-nil}
+use Rattle.std.proofs.Common.{◌≡◌, ◌↔◌, ℕ, Result, Ok, Err, IfErr, IsOk, is_err, Bool, true, false, inl, inr, IfSome, ◌+◌, ◌-◌, ◌*◌, ◌^◌, ◌<◌, ◌≤◌, List, [], ◌++◌, length, drop, sym, ap, subst, ◌∙◌, arith, below_more, ◌==◌, Option, eqb-true, append-nil}
 use Rattle.std.specs.Io.KnownBytes.{Appends, Keeps}
 use Rattle.std.proofs.KnownBytes.{Appends-kept, Appends-nil, Appends-trans, Keeps-refl}
 use Rattle.std.proofs.lemmas.Bool.{eqb-false}
@@ -28,6 +28,10 @@ none_right : (key : Secret) (file : List ℕ) → AreRight key file 0
 none_right key file = record { each = λ i h. absurd (omega arith) }
 
 -- ---- refusals
+
+-- an error means that what would be accepted is not so
+pub untagged : {X : Type 0} → (false ≡ true) ↔ X → ¬ X
+untagged accepted had = let opened : false ≡ true = accepted.1 had in cc
 
 -- the header of the bytes that were read as a file's is the file's
 header_bytes : (file bytes read_bytes : List ℕ) (rest : Option (List ℕ)) → bytes ≡ read_bytes → TakesFront header_len file read_bytes rest
@@ -118,6 +122,12 @@ pub stop_at_start : (key : Secret) (file : List ℕ) (old : Option (List ℕ)) �
 stop_at_start key file old = (0, λ some. absurd (omega (arith, some)), none_right key file, begins_none old (opened_chunks key file 0))
 
 module _ {key : Secret} {k : ChunkKey} {file : List ℕ} {n : ℕ} {old now : Option (List ℕ)} (s : Opening key k file n old now) where
+  -- too many chunks
+  pub open_long : n ≤ 2 ^ 32 - 1 → 2 ^ 32 - 1 ≤ n → OpenRefuses key file TooLong
+  open_long most least =
+      let e : n ≡ 2 ^ 32 - 1 = omega arith in
+      (s.front, subst (AreRight key file) e s.right, subst (λ m. m ≤ last_chunk file) e s.in_range)
+
   module _ {flag : Bool} {chunk : List ℕ} (flag_right : flag ≡ (n == last_chunk file))
       (chunk_is : chunk ≡ chunk_of file n) where
     -- a chunk that has no right tag
@@ -197,13 +207,8 @@ module _ {key : Secret} {k : ChunkKey} {file chunk : List ℕ} {n : ℕ} {rest o
   pub read_stop : AppendsRight key file old now
   read_stop = (n, λ _. s.so_far.front, s.so_far.right, (_, [], sym (append-nil (opened_chunks key file n)), s.so_far.written))
 
-  -- too many chunks
-  pub read_long : n ≡ 2 ^ 32 - 1 → OpenRefuses key file TooLong
-  read_long e = (
-    s.so_far.front,
-    subst (AreRight key file) e s.so_far.right,
-    subst (λ m. m ≤ last_chunk file) e s.so_far.in_range,
-  )
+  pub read_long : n ≤ 2 ^ 32 - 1 → 2 ^ 32 - 1 ≤ n → OpenRefuses key file TooLong
+  read_long = open_long s.so_far
 
   module _ (next : List ℕ) (rest' : Option (List ℕ)) (read : IfSome rest (λ left. TakesFront sealed_chunk_len left next rest'))
       {m : ℕ} {flag : Bool} (counted : flag ≡ (m == 0)) (m_is : m ≡ length next) where

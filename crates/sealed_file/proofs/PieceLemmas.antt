@@ -8,10 +8,14 @@ use lemmas.List.{append_cancel_left}
 use lemmas.List.Folds.{concat-append}
 use lemmas.List.FromFn.{map-range_with_len_more}
 use lemmas.Nat.{div-mul-add, div_below, le-div}
+use proofs.Math.Nat.{div-add-mod}
 use proofs.Math.Seq.{take-add}
 use Rattle.aead_ciphers_base.specs.Bytes.{each_below}
 use Rattle.aead_ciphers_base.proofs.EachLemmas.{each-append}
 use Rattle.sealed_file.specs.Format.{piece, last_piece}
+
+pub below_next : (n m : ℕ) → n ≤ m → n < m + 1
+below_next n m h = omega arith
 
 -- one more
 pub joined_more : (f : ℕ → List ℕ) (n : ℕ) → concat (each_below (n + 1) f) ≡ concat (each_below n f) ++ f n
@@ -34,6 +38,16 @@ last_piece-le size len n some within = let d = div_below (len - 1) size (n + 1) 
 
 pub last_piece-above : (size len n : ℕ) → 0 < size → size * n < len → n ≤ last_piece size len
 last_piece-above size len n some past = le-div n (len - 1) size some (omega arith)
+
+-- the place of the last piece is within the bytes, and no more than a piece is left there
+pub last_piece-at : (size len : ℕ) → size * last_piece size len ≤ len
+last_piece-at size len = let d = div-add-mod (len - 1) size in omega (arith, d)
+
+pub last_piece-left : (size len : ℕ) → 0 < size → len ≤ size * (last_piece size len + 1)
+last_piece-left size len some = elim (cases_lt (size * (last_piece size len + 1)) len) [
+  | inl past ↦ let h = last_piece-above size len (last_piece size len + 1) some past in absurd (omega arith)
+  | inr within ↦ within
+]
 
 -- a piece is the last if the next is empty
 pub is_last : (size : ℕ) (bytes next : List ℕ) (n m : ℕ) → 0 < size → n ≤ last_piece size (length bytes) → next ≡ piece size bytes (n + 1)
@@ -62,6 +76,18 @@ length-piece size bytes n some before = elim (cases_lt (size * (n + 1)) (length 
 pub length-piece-le : (size : ℕ) (bytes : List ℕ) (n : ℕ) → length (piece size bytes n) ≤ size
 length-piece-le size bytes n = omega (arith, length-take size (drop (size * n) bytes))
 
+-- the last piece has what is left
+left_short : (size n len : ℕ) → len ≤ size * (n + 1) → len - size * n ≤ size
+left_short size n len h = omega arith
+
+pub length-last_piece : (size : ℕ) (bytes : List ℕ) → 0 < size
+    → length (piece size bytes (last_piece size (length bytes))) ≡ length bytes - size * last_piece size (length bytes)
+length-last_piece size bytes some =
+    let n = last_piece size (length bytes) in
+    let left = length-drop (size * n) bytes in
+    let short = left_short size n (length bytes) (last_piece-left size (length bytes) some) in
+    ap length (take_all size (drop (size * n) bytes) (subst (λ m. m ≤ size) (sym left) short)) ∙ left
+
 -- what is after a piece
 pub rest_behind : (size : ℕ) (bytes : List ℕ) (n : ℕ) → drop size (drop (size * n) bytes) ≡ drop (size * (n + 1)) bytes
 rest_behind size bytes n = drop-drop size (size * n) bytes
@@ -80,10 +106,7 @@ joined_pieces size bytes (suc n) =
 pub all_pieces : (size : ℕ) (bytes : List ℕ) → 0 < size → concat (each_below (last_piece size (length bytes) + 1) (piece size bytes)) ≡ bytes
 all_pieces size bytes some =
     let n = last_piece size (length bytes) + 1 in
-    joined_pieces size bytes n ∙ take_all (size * n) bytes (elim (cases_lt (size * n) (length bytes)) [
-      | inl past ↦ let h = last_piece-above size (length bytes) n some past in absurd (omega arith)
-      | inr within ↦ within
-    ])
+    joined_pieces size bytes n ∙ take_all (size * n) bytes (last_piece-left size (length bytes) some)
 
 -- the first of some lists, and then the next and those after it
 pub joined_parts : (f : ℕ → List ℕ) (n m : ℕ) → n < m → (later : List ℕ) × (concat (each_below m f) ≡ concat (each_below n f) ++ (f n ++ later))

@@ -13,7 +13,7 @@ use specs.Reader.{EndsAt, IsMessageOf, IsReadable, ReaderRefuses, file_from, mes
 use specs.Refusals.{ChunkRefuses, FailsInMemory, RefusesChunk}
 use Rattle.sealed_file.proofs
 use proofs.InMemoryLemmas.{length-plaintext, piece_of_plaintext}
-use proofs.OpenLemmas.{message_at}
+use proofs.OpenLemmas.{message_at, untagged}
 
 pub message_len-last : (last last_len i : ℕ) → i ≡ last → message_len last last_len i ≡ last_len
 unfolding message_len
@@ -193,7 +193,7 @@ pub refusal_of : {T : Type 0} (r : Result T FileError) (file : Option (List ℕ)
     → IfSome file (λ file. IfErr r (λ error. RefusesChunk k file i error))
 refusal_of r None k i accepted refused = tt
 refusal_of (Ok v) (Some file) k i accepted refused = tt
-refusal_of (Err e) (Some file) k i accepted refused = (λ had. let never : false ≡ true = accepted.1 had in cc, refused)
+refusal_of (Err e) (Some file) k i accepted refused = (untagged accepted, refused)
 
 -- ---- what a reader's calls say
 
@@ -212,6 +212,21 @@ copied_of (Some file) k last last_len i place offset n message copied ends opene
     ∙ ap (λ j. take n (drop place (message_at k file j))) i_is
     ∙ ap (λ p. take n (drop p (message_at k file (offset / chunk_len)))) place_is
     ∙ part_of k file offset n (omega (arith, i_is, in_range, ends.last_is)) (omega (arith, few, place_is))
+
+-- past the end nothing is read
+pub past_end : (size offset : ℕ) → (false ≡ true) ↔ (offset < size) → size ≤ offset
+past_end size offset known = elim (cases_lt offset size) [
+  | inl within ↦ absurd (untagged known within)
+  | inr past ↦ past
+]
+
+pub none_there : (size offset len most all : ℕ) → all ≡ size → size ≤ offset → 0 ≡ min len (min (all - offset) most)
+none_there size offset len most all all_is past = omega arith
+
+pub past_says : (X : Type 0) (P : List ℕ → Type 0) (known : Option (List ℕ)) (size offset all : ℕ) → all ≡ size → size ≤ offset
+    → IfSome known (λ bytes. X → offset < all → P bytes)
+past_says X P None size offset all all_is past = tt
+past_says X P (Some bytes) size offset all all_is past = λ _ within. absurd (omega arith)
 
 -- where the tag decides, it decides at an equal number
 pub decided : (Z X Y : Type 0) (file : Option (List ℕ)) (k : ChunkKey) (i j : ℕ) → i ≡ j

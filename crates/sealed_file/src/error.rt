@@ -35,14 +35,13 @@ pub enum FileError {
 impl fmt::Display for FileError {
     fn fmt<W: fmt::Write>(&self, f: &mut fmt::Formatter<W>) -> fmt::Result {
         match self {
-            FileError::KeyLength => write!(f, "the key is not 32 bytes long"),
-            FileError::AnotherMagic => write!(f, "not a sealed file"),
-            FileError::AnotherVersion(2) => write!(
-                f,
-                "a sealed file of version 2, which a key opens"
+            FileError::KeyLength => f.write_str("the key is not 32 bytes long"),
+            FileError::AnotherMagic => f.write_str("not a sealed file"),
+            FileError::AnotherVersion(2) => f.write_str(
+                "a sealed file of version 2, which a key opens",
             ),
             FileError::AnotherVersion(3) => {
-                write!(f, "a sealed file of version 3, which a passphrase opens")
+                f.write_str("a sealed file of version 3, which a passphrase opens")
             }
             FileError::AnotherVersion(version) => {
                 write!(
@@ -51,10 +50,7 @@ impl fmt::Display for FileError {
                 )
             }
             FileError::WrongKey => {
-                write!(
-                    f,
-                    "the key or passphrase is wrong, or the header was changed"
-                )
+                f.write_str("the key or passphrase is wrong, or the header was changed")
             }
             FileError::Iterations(count) => {
                 write!(
@@ -62,11 +58,11 @@ impl fmt::Display for FileError {
                     "{count} iterations, which are not from 1 to {MAX_ITERATIONS}"
                 )
             }
-            FileError::EndsEarly => write!(f, "the sealed file ends early"),
-            FileError::TrailingBytes => write!(f, "bytes after the last chunk"),
+            FileError::EndsEarly => f.write_str("the sealed file ends early"),
+            FileError::TrailingBytes => f.write_str("bytes after the last chunk"),
             FileError::Refused(number) => write!(f, "chunk {number} was changed or cut"),
-            FileError::TooLong => write!(f, "the file is too long: it has 2^32 chunks or more"),
-            FileError::OutOfMemory => write!(f, "out of memory"),
+            FileError::TooLong => f.write_str("the file is too long: it has 2^32 chunks or more"),
+            FileError::OutOfMemory => f.write_str("out of memory"),
             FileError::Io(error) => write!(f, "{error}"),
         }
     }

@@ -1,9 +1,9 @@
-use Rattle.std.proofs.Common.{◌≡◌, vec_len, arith, refl, true, false, ◌∙◌}
+use Rattle.std.proofs.Common.{◌≡◌, refl, ap, ◌∙◌}
 use Rattle.std.proofs.lemmas
 use lemmas.Option.{IfSome_then}
 use lemmas.Result.{err_from_is_err_and}
 use Rattle.sealed_file.proofs
-use proofs.OpenLemmas.{header_fails, read_accepted, read_end, read_long, read_next, read_refused, read_start, read_stop, read_stop_in, stop_at_start}
+use proofs.OpenLemmas.{header_fails, read_accepted, read_end, read_long, read_next, read_refused, read_start, read_stop, read_stop_in, stop_at_start, untagged}
 use proofs.StreamLemmas.{says_nothing, stop, stop_then}
 use proofs.opening.open_version.Goals as goal
 
@@ -41,7 +41,7 @@ returns-in_err-open_chunk-clause-refused g c =
     let p = err_from_is_err_and c.from_residual-in_err-open_chunk.result c.from_residual-in_err-open_chunk.ensures.1 in
     rw (p.1, p.2) (IfSome_then _ c.loop-number.invariant.1 (λ file s.
     read_refused s _ _ c.in_ok-read_piece-2.ensures.bytes c.is_empty-is_last.ensures c.read_piece-in-loop-number.new.piece.ok.0 _
-    (λ had. let opened : false ≡ true = c.in_err-open_chunk.ensures.accepted.1 had in cc) c.in_err-open_chunk.ensures.refused))
+    (untagged c.in_err-open_chunk.ensures.accepted) c.in_err-open_chunk.ensures.refused))
 
 pub returns-in_err-open_chunk-clause-nothing_past : goal.returns-in_err-open_chunk-clause-nothing_past
 returns-in_err-open_chunk-clause-nothing_past g c = stop_then _ _ c.loop-number.invariant.1 (λ file s. read_stop s)
@@ -66,9 +66,9 @@ returns-then-is_last-clause-opened g c = IfSome_then _ c.loop-number.invariant.1
 pub loop-number-preserved : goal.loop-number-preserved
 loop-number-preserved g c =
     let next = c.read_piece-in-loop-number.new.piece in
-    let swapped : vec_len c.swap.new.x ≡ vec_len next = cc in
-    let same : c.swap.new.x.items ≡ next.items = cc in (
-      omega (arith, c.in_ok-read_piece-2.ensures.size, swapped),
+    let swapped = c.swap.ensures.x_after in
+    let same : c.swap.new.x.items ≡ next.items = ap (λ v. v.items) swapped in (
+      rw swapped c.in_ok-read_piece-2.ensures.size,
       IfSome_then _ c.loop-number.invariant.1 (λ file s.
           read_next s _ _ c.in_ok-read_piece-2.ensures.bytes c.is_empty-is_last.ensures next.ok.0
           (c.in_ok-open_chunk.ensures.accepted.0 refl) (c.deref-in-loop-number.ensures.value ∙ c.in_ok-open_chunk.ensures.opened) _
@@ -77,8 +77,7 @@ loop-number-preserved g c =
 
 pub returns-clause-refused : goal.returns-clause-refused
 returns-clause-refused g c = IfSome_then _ c.loop-number.invariant.1 (λ file s.
-    let in_range = c.loop-number.auto.number-end in
-    read_long s (omega arith))
+    read_long s c.loop-number.auto.number-end c.loop-number-test.false)
 
 pub returns-clause-nothing_past : goal.returns-clause-nothing_past
 returns-clause-nothing_past g c = IfSome_then _ c.loop-number.invariant.1 (λ file s. read_stop s)

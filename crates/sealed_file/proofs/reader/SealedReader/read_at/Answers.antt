@@ -4,7 +4,7 @@ use Rattle.sealed_file.specs.Format.{chunk_len}
 use Rattle.sealed_file.specs.Reader.{ReaderState}
 use Rattle.sealed_file.specs.Opening.{HasTagUnder, plaintext_under}
 use Rattle.sealed_file.proofs
-use proofs.ReaderLemmas.{copied_of, count_there, decided, held_then}
+use proofs.ReaderLemmas.{copied_of, count_there, decided, held_then, none_there, past_end, past_says}
 use proofs.reader.SealedReader.read_at.Goals as goal
 
 pub returns-then-eq-clause-count : goal.returns-then-eq-clause-count
@@ -87,3 +87,12 @@ returns-clause-opened g c =
     place.number place.at place.in_range
     (omega (arith, c.copy_from-count.ensures.count, length-take c.len_of-len.result c.deref-2.result.now, short))
     c.copy_from-count.ensures.copied)
+
+pub returns-in_default-clause-count : goal.returns-in_default-clause-count
+returns-in_default-clause-count g c =
+    none_there _ _ _ _ _ (sym (ap (λ (r : ReaderState). r.len) c.self.view_is)) (past_end _ _ c.in_default.ensures.known)
+
+pub returns-in_default-clause-accepted : goal.returns-in_default-clause-accepted
+returns-in_default-clause-accepted g c =
+    past_says (0 < length c.args.buf.now) (λ file. (true ≡ true) ↔ HasTagUnder c.args.self.now.key file (c.args.offset / chunk_len))
+    c.args.self.now.file _ _ _ (sym (ap (λ (r : ReaderState). r.len) c.self.view_is)) (past_end _ _ c.in_default.ensures.known)
