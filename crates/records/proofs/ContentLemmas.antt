@@ -146,6 +146,14 @@ module _ (size_limit padding : ℕ) (content : List ℕ) (i : ℕ) where
       let same = length-piece most content i in
       record { nonempty = λ _. refl; alert = λ wrong. cc; fits = omega arith }
 
+-- the next piece fits in the rest
+pub piece_fits : (n room count padding i filled len total : ℕ) → i < count → len ≡ min room (n - i * room)
+    → filled + (n - i * room) + (count - i) * (padding + 22) ≡ n + count * (padding + 22) → n + count * (padding + 22) ≤ total
+    → filled + len + padding + 22 ≤ total
+piece_fits n room count padding i filled len total more len_is left fits =
+    let one : 1 * (padding + 22) ≤ (count - i) * (padding + 22) = mul-le 1 (padding + 22) (count - i) (padding + 22) (omega arith) (omega arith) in
+    omega (arith, one, len_is, left, fits)
+
 -- what is left after a piece
 pub left_more : (n room count q i filled len : ℕ) → i < count → len ≡ min room (n - i * room)
     → filled + (n - i * room) + (count - i) * q ≡ n + count * q

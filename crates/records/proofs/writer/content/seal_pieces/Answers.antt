@@ -1,5 +1,5 @@
 use Rattle.std.proofs.Common.{◌+◌, ◌*◌, arith, length, take, drop, ap}
-use Rattle.records.proofs.ContentLemmas.{allowed_piece, left_more, length-piece, more_sealed, piece_is}
+use Rattle.records.proofs.ContentLemmas.{allowed_piece, left_more, length-piece, more_sealed, piece_fits, piece_is}
 use Rattle.records.proofs.writer.content.seal_pieces.Goals as goal
 
 pub seal_piece-filled-requires-clause-allowed : goal.seal_piece-filled-requires-clause-allowed
@@ -8,6 +8,15 @@ seal_piece-filled-requires-clause-allowed c =
     let within = c.loop-i-test.true in
     rw (same, c.requires.room)
     (allowed_piece c.args.key.now.size_limit c.args.padding c.args.content.now c.loop-i.i c.args.content_type c.requires.allowed (omega arith))
+
+pub seal_piece-filled-requires-clause-room : goal.seal_piece-filled-requires-clause-room
+seal_piece-filled-requires-clause-room c =
+    let content = c.args.content.now in
+    let i = c.loop-i.i in
+    rw (piece_is c.args.cut.room content i c.min.result c.min.ensures)
+    (piece_fits (length content) c.args.cut.room c.args.cut.count c.args.padding i c.loop-i.filled _ (length c.loop-i.out) c.loop-i-test.true
+    (length-piece c.args.cut.room content i) c.loop-i.invariant.left
+    (rw (c.loop-i.auto.out, c.requires.count) c.requires.fits))
 
 pub loop-i-preserved : goal.loop-i-preserved
 loop-i-preserved c =
