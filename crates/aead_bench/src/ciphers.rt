@@ -1,6 +1,6 @@
 //! Loops over AES, GHASH and AES-GCM, of `aead_ciphers` and of `aead_ciphers_wide`, and over ChaCha20.
 
-use crate::keys::{AeadKey, MASK_LEN, MaskKey, aes_of};
+use crate::keys::{AeadKey, MASK_LEN, MaskKey, header_algorithm};
 use crate::{NONCE, first_bytes, nonce, set_first_bytes};
 use aead_ciphers::aead::quic::{self, HeaderProtectionKey};
 use aead_ciphers::aead::{Aad, LessSafeKey};
@@ -19,7 +19,7 @@ use aead_ciphers_wide::{aes as wide_aes, gcm as wide_gcm};
 const CHACHA_MAX_LEN: usize = 1 << 20;
 
 /// The tag with the nonce as AAD, which distinguishes AES-GCM keys.
-fn sum_of_key<K: AeadKey>(key: &K) -> u64 {
+fn aead_key_check_value<K: AeadKey>(key: &K) -> u64 {
     match key.seal(nonce(), Aad::from(&NONCE[..]), &mut []) {
         Ok(tag) => first_bytes(tag.as_ref()),
         Err(_) => 0,
@@ -27,7 +27,7 @@ fn sum_of_key<K: AeadKey>(key: &K) -> u64 {
 }
 
 /// The first eight bytes of a block.
-fn first_bytes_of_block(block: Block) -> u64 {
+fn eight_bytes_of_block(block: Block) -> u64 {
     first_bytes(&block)
 }
 
@@ -45,11 +45,11 @@ pub extern "C" fn bench_encrypt_four(times: u64, key: &[u8], _buffer: &mut [u8])
         blocks = key.encrypt_four(blocks);
     }
     let [first, ..] = blocks;
-    first_bytes_of_block(first)
+    eight_bytes_of_block(first)
 }
 
 /// Encrypts the whole blocks of the buffer in counter mode in each turn.
-fn ctr32<K: EncryptCtr32>(times: u64, key: &K, buffer: &mut [u8]) -> u64 {
+fn loop_ctr32<K: EncryptCtr32>(times: u64, key: &K, buffer: &mut [u8]) -> u64 {
     for _ in 0..times {
         let whole = buffer.len() / BLOCK_LEN * BLOCK_LEN;
         let in_out = Overlapping::from(&mut buffer[..whole]);
@@ -58,32 +58,32 @@ fn ctr32<K: EncryptCtr32>(times: u64, key: &K, buffer: &mut [u8]) -> u64 {
     first_bytes(buffer)
 }
 
-/// `ctr32` under an AES key of `aead_ciphers_base`.
+/// `loop_ctr32` under an AES key of `aead_ciphers_base`.
 #[unsafe(no_mangle)]
 pub extern "C" fn bench_ctr32(times: u64, key: &[u8], buffer: &mut [u8]) -> u64 {
     let Ok(bytes) = KeyBytes::from_slice(key) else {
         return 0
     };
     match aes::Key::new(bytes) {
-        Ok(key) => ctr32(times, &key, buffer),
+        Ok(key) => loop_ctr32(times, &key, buffer),
         Err(_) => 0,
     }
 }
 
-/// `ctr32` under an AES key of `aead_ciphers_wide`.
+/// `loop_ctr32` under an AES key of `aead_ciphers_wide`.
 #[unsafe(no_mangle)]
 pub extern "C" fn bench_wide_ctr32(times: u64, key: &[u8], buffer: &mut [u8]) -> u64 {
     let Ok(bytes) = KeyBytes::from_slice(key) else {
         return 0
     };
     match wide_aes::Key::new(bytes) {
-        Ok(key) => ctr32(times, &key, buffer),
+        Ok(key) => loop_ctr32(times, &key, buffer),
         Err(_) => 0,
     }
 }
 
 /// Adds one block to a running hash in each turn.
-fn update_block<G: UpdateBlock>(times: u64, key: &G, block: Block) -> u64 {
+fn loop_update_block<G: UpdateBlock>(times: u64, key: &G, block: Block) -> u64 {
     let mut xi = Xi::zero();
     for _ in 0..times {
         key.update_block(&mut xi, block, &mut Work::new());
@@ -91,26 +91,26 @@ fn update_block<G: UpdateBlock>(times: u64, key: &G, block: Block) -> u64 {
     first_bytes(xi.as_ref())
 }
 
-/// `update_block` under a hash key of `aead_ciphers`. The hash subkey and the block are the key.
+/// `loop_update_block` under a hash key of `aead_ciphers`. The hash subkey and the block are the key.
 #[unsafe(no_mangle)]
 pub extern "C" fn bench_update_block(times: u64, key: &[u8], _buffer: &mut [u8]) -> u64 {
     match key.as_array::<BLOCK_LEN>() {
-        Some(block) => update_block(times, &gcm::Key::new(KeyValue::new(*block)), *block),
+        Some(block) => loop_update_block(times, &gcm::Key::new(KeyValue::new(*block)), *block),
         None => 0,
     }
 }
 
-/// `update_block` under a hash key of `aead_ciphers_wide`. The hash subkey and the block are the key.
+/// `loop_update_block` under a hash key of `aead_ciphers_wide`. The hash subkey and the block are the key.
 #[unsafe(no_mangle)]
 pub extern "C" fn bench_wide_update_block(times: u64, key: &[u8], _buffer: &mut [u8]) -> u64 {
     match key.as_array::<BLOCK_LEN>() {
-        Some(block) => update_block(times, &wide_gcm::Key::new(*block), *block),
+        Some(block) => loop_update_block(times, &wide_gcm::Key::new(*block), *block),
         None => 0,
     }
 }
 
 /// Adds the whole blocks of the buffer to a running hash in each turn.
-fn update_blocks<G: UpdateBlocks>(times: u64, key: &G, buffer: &[u8]) -> u64 {
+fn loop_update_blocks<G: UpdateBlocks>(times: u64, key: &G, buffer: &[u8]) -> u64 {
     let mut xi = Xi::zero();
     for _ in 0..times {
         let (blocks, _) = as_chunks::<u8, BLOCK_LEN>(buffer);
@@ -119,26 +119,26 @@ fn update_blocks<G: UpdateBlocks>(times: u64, key: &G, buffer: &[u8]) -> u64 {
     first_bytes(xi.as_ref())
 }
 
-/// `update_blocks` under a hash key of `aead_ciphers`. The hash subkey is the key.
+/// `loop_update_blocks` under a hash key of `aead_ciphers`. The hash subkey is the key.
 #[unsafe(no_mangle)]
 pub extern "C" fn bench_update_blocks(times: u64, key: &[u8], buffer: &mut [u8]) -> u64 {
     match key.as_array::<BLOCK_LEN>() {
-        Some(subkey) => update_blocks(times, &gcm::Key::new(KeyValue::new(*subkey)), buffer),
+        Some(subkey) => loop_update_blocks(times, &gcm::Key::new(KeyValue::new(*subkey)), buffer),
         None => 0,
     }
 }
 
-/// `update_blocks` under a hash key of `aead_ciphers_wide`. The hash subkey is the key.
+/// `loop_update_blocks` under a hash key of `aead_ciphers_wide`. The hash subkey is the key.
 #[unsafe(no_mangle)]
 pub extern "C" fn bench_wide_update_blocks(times: u64, key: &[u8], buffer: &mut [u8]) -> u64 {
     match key.as_array::<BLOCK_LEN>() {
-        Some(subkey) => update_blocks(times, &wide_gcm::Key::new(*subkey), buffer),
+        Some(subkey) => loop_update_blocks(times, &wide_gcm::Key::new(*subkey), buffer),
         None => 0,
     }
 }
 
 /// Seals the buffer in place in each turn.
-fn seal<K: AeadKey>(times: u64, key: &[u8], buffer: &mut [u8]) -> u64 {
+fn loop_seal<K: AeadKey>(times: u64, key: &[u8], buffer: &mut [u8]) -> u64 {
     let Ok(key) = K::from_bytes(key) else {
         return 0
     };
@@ -151,20 +151,20 @@ fn seal<K: AeadKey>(times: u64, key: &[u8], buffer: &mut [u8]) -> u64 {
     last
 }
 
-/// `seal` under a `LessSafeKey` of `aead_ciphers`.
+/// `loop_seal` under a `LessSafeKey` of `aead_ciphers`.
 #[unsafe(no_mangle)]
 pub extern "C" fn bench_seal(times: u64, key: &[u8], buffer: &mut [u8]) -> u64 {
-    seal::<LessSafeKey>(times, key, buffer)
+    loop_seal::<LessSafeKey>(times, key, buffer)
 }
 
-/// `seal` under a `LessSafeKey` of `aead_ciphers_wide`.
+/// `loop_seal` under a `LessSafeKey` of `aead_ciphers_wide`.
 #[unsafe(no_mangle)]
 pub extern "C" fn bench_wide_seal(times: u64, key: &[u8], buffer: &mut [u8]) -> u64 {
-    seal::<WideKey>(times, key, buffer)
+    loop_seal::<WideKey>(times, key, buffer)
 }
 
 /// Seals no bytes in each turn, with the buffer as the AAD.
-fn authenticate<K: AeadKey>(times: u64, key: &[u8], buffer: &[u8]) -> u64 {
+fn loop_authenticate<K: AeadKey>(times: u64, key: &[u8], buffer: &[u8]) -> u64 {
     let Ok(key) = K::from_bytes(key) else {
         return 0
     };
@@ -177,23 +177,23 @@ fn authenticate<K: AeadKey>(times: u64, key: &[u8], buffer: &[u8]) -> u64 {
     last
 }
 
-/// `authenticate` under a `LessSafeKey` of `aead_ciphers`.
+/// `loop_authenticate` under a `LessSafeKey` of `aead_ciphers`.
 #[unsafe(no_mangle)]
 pub extern "C" fn bench_authenticate(times: u64, key: &[u8], buffer: &mut [u8]) -> u64 {
-    authenticate::<LessSafeKey>(times, key, buffer)
+    loop_authenticate::<LessSafeKey>(times, key, buffer)
 }
 
-/// `authenticate` under a `LessSafeKey` of `aead_ciphers_wide`.
+/// `loop_authenticate` under a `LessSafeKey` of `aead_ciphers_wide`.
 #[unsafe(no_mangle)]
 pub extern "C" fn bench_wide_authenticate(times: u64, key: &[u8], buffer: &mut [u8]) -> u64 {
-    authenticate::<WideKey>(times, key, buffer)
+    loop_authenticate::<WideKey>(times, key, buffer)
 }
 
 /// Opens the buffer in place in each turn, and adds the number of accepted messages to the result.
 ///
 /// Opening replaces the buffer by the plaintext, whose encryption is the bytes that were in the buffer before. So two tags
 /// alternate.
-fn open<K: AeadKey>(times: u64, key: &[u8], buffer: &mut [u8]) -> u64 {
+fn loop_open<K: AeadKey>(times: u64, key: &[u8], buffer: &mut [u8]) -> u64 {
     let Ok(key) = K::from_bytes(key) else {
         return 0
     };
@@ -211,21 +211,21 @@ fn open<K: AeadKey>(times: u64, key: &[u8], buffer: &mut [u8]) -> u64 {
     answer
 }
 
-/// `open` under a `LessSafeKey` of `aead_ciphers`.
+/// `loop_open` under a `LessSafeKey` of `aead_ciphers`.
 #[unsafe(no_mangle)]
 pub extern "C" fn bench_open(times: u64, key: &[u8], buffer: &mut [u8]) -> u64 {
-    open::<LessSafeKey>(times, key, buffer)
+    loop_open::<LessSafeKey>(times, key, buffer)
 }
 
-/// `open` under a `LessSafeKey` of `aead_ciphers_wide`.
+/// `loop_open` under a `LessSafeKey` of `aead_ciphers_wide`.
 #[unsafe(no_mangle)]
 pub extern "C" fn bench_wide_open(times: u64, key: &[u8], buffer: &mut [u8]) -> u64 {
-    open::<WideKey>(times, key, buffer)
+    loop_open::<WideKey>(times, key, buffer)
 }
 
 /// The encrypted zero block, which distinguishes AES keys.
-fn sum_of_aes_key<K: EncryptBlock>(key: &K) -> u64 {
-    first_bytes_of_block(key.encrypt_block(ZERO_BLOCK, &mut Work::new()))
+fn aes_key_check_value<K: EncryptBlock>(key: &K) -> u64 {
+    eight_bytes_of_block(key.encrypt_block(ZERO_BLOCK, &mut Work::new()))
 }
 
 /// Expands an AES key of `aead_ciphers_base` from the bytes of the buffer in each turn.
@@ -245,7 +245,7 @@ pub extern "C" fn bench_aes_key(times: u64, key: &[u8], buffer: &mut [u8]) -> u6
             last = made;
         }
     }
-    sum_of_aes_key(&last)
+    aes_key_check_value(&last)
 }
 
 /// Expands an AES key of `aead_ciphers_wide` from the bytes of the buffer in each turn.
@@ -265,11 +265,11 @@ pub extern "C" fn bench_wide_aes_key(times: u64, key: &[u8], buffer: &mut [u8]) 
             last = made;
         }
     }
-    sum_of_aes_key(&last)
+    aes_key_check_value(&last)
 }
 
 /// Creates an AES-GCM key from the bytes of the buffer in each turn.
-fn make_key<K: AeadKey>(times: u64, key: &[u8], buffer: &mut [u8]) -> u64 {
+fn loop_make_key<K: AeadKey>(times: u64, key: &[u8], buffer: &mut [u8]) -> u64 {
     let Ok(mut last) = K::from_bytes(key) else {
         return 0
     };
@@ -279,23 +279,23 @@ fn make_key<K: AeadKey>(times: u64, key: &[u8], buffer: &mut [u8]) -> u64 {
             last = made;
         }
     }
-    sum_of_key(&last)
+    aead_key_check_value(&last)
 }
 
-/// `make_key` of `aead_ciphers`.
+/// `loop_make_key` of `aead_ciphers`.
 #[unsafe(no_mangle)]
 pub extern "C" fn bench_less_safe_key(times: u64, key: &[u8], buffer: &mut [u8]) -> u64 {
-    make_key::<LessSafeKey>(times, key, buffer)
+    loop_make_key::<LessSafeKey>(times, key, buffer)
 }
 
-/// `make_key` of `aead_ciphers_wide`.
+/// `loop_make_key` of `aead_ciphers_wide`.
 #[unsafe(no_mangle)]
 pub extern "C" fn bench_wide_less_safe_key(times: u64, key: &[u8], buffer: &mut [u8]) -> u64 {
-    make_key::<WideKey>(times, key, buffer)
+    loop_make_key::<WideKey>(times, key, buffer)
 }
 
 /// Clones an AES-GCM key in each turn: first the key of the buffer, and then the last clone.
-fn clone<K: AeadKey + Clone>(times: u64, key: &[u8], buffer: &[u8]) -> u64 {
+fn loop_clone<K: AeadKey + Clone>(times: u64, key: &[u8], buffer: &[u8]) -> u64 {
     let (Ok(even), Ok(odd)) = (K::from_bytes(key), K::from_bytes(buffer)) else {
         return 0;
     };
@@ -309,19 +309,19 @@ fn clone<K: AeadKey + Clone>(times: u64, key: &[u8], buffer: &[u8]) -> u64 {
             even = clone;
         }
     }
-    sum_of_key(&odd)
+    aead_key_check_value(&odd)
 }
 
-/// `clone` of a `LessSafeKey` of `aead_ciphers`.
+/// `loop_clone` of a `LessSafeKey` of `aead_ciphers`.
 #[unsafe(no_mangle)]
 pub extern "C" fn bench_clone(times: u64, key: &[u8], buffer: &mut [u8]) -> u64 {
-    clone::<LessSafeKey>(times, key, buffer)
+    loop_clone::<LessSafeKey>(times, key, buffer)
 }
 
-/// `clone` of a `LessSafeKey` of `aead_ciphers_wide`.
+/// `loop_clone` of a `LessSafeKey` of `aead_ciphers_wide`.
 #[unsafe(no_mangle)]
 pub extern "C" fn bench_wide_clone(times: u64, key: &[u8], buffer: &mut [u8]) -> u64 {
-    clone::<WideKey>(times, key, buffer)
+    loop_clone::<WideKey>(times, key, buffer)
 }
 
 /// Encrypts the buffer in place with ChaCha20 in each turn.
@@ -340,7 +340,7 @@ pub extern "C" fn bench_chacha(times: u64, key: &[u8], buffer: &mut [u8]) -> u64
 }
 
 /// Computes the header protection mask of the sample in the buffer in each turn, and writes it to the front of the sample.
-fn mask<K: MaskKey>(times: u64, key: &K, buffer: &mut [u8]) -> u64 {
+fn loop_mask<K: MaskKey>(times: u64, key: &K, buffer: &mut [u8]) -> u64 {
     for _ in 0..times {
         if let (Ok(mask), Some(front)) = (key.mask(buffer), buffer.first_chunk_mut::<MASK_LEN>()) {
             *front = mask;
@@ -349,29 +349,29 @@ fn mask<K: MaskKey>(times: u64, key: &K, buffer: &mut [u8]) -> u64 {
     first_bytes(buffer)
 }
 
-/// `mask` by AES, with a key of `aead_ciphers`.
+/// `loop_mask` by AES, with a key of `aead_ciphers`.
 #[unsafe(no_mangle)]
 pub extern "C" fn bench_mask(times: u64, key: &[u8], buffer: &mut [u8]) -> u64 {
-    match HeaderProtectionKey::new(aes_of(key), key) {
-        Ok(key) => mask(times, &key, buffer),
+    match HeaderProtectionKey::new(header_algorithm(key), key) {
+        Ok(key) => loop_mask(times, &key, buffer),
         Err(_) => 0,
     }
 }
 
-/// `mask` by AES, with a key of `aead_ciphers_wide`.
+/// `loop_mask` by AES, with a key of `aead_ciphers_wide`.
 #[unsafe(no_mangle)]
 pub extern "C" fn bench_wide_mask(times: u64, key: &[u8], buffer: &mut [u8]) -> u64 {
-    match WideHeaderKey::new(aes_of(key), key) {
-        Ok(key) => mask(times, &key, buffer),
+    match WideHeaderKey::new(header_algorithm(key), key) {
+        Ok(key) => loop_mask(times, &key, buffer),
         Err(_) => 0,
     }
 }
 
-/// `mask` by ChaCha20, with a key of `aead_ciphers`.
+/// `loop_mask` by ChaCha20, with a key of `aead_ciphers`.
 #[unsafe(no_mangle)]
 pub extern "C" fn bench_chacha_mask(times: u64, key: &[u8], buffer: &mut [u8]) -> u64 {
     match HeaderProtectionKey::new(&quic::CHACHA20, key) {
-        Ok(key) => mask(times, &key, buffer),
+        Ok(key) => loop_mask(times, &key, buffer),
         Err(_) => 0,
     }
 }

@@ -20,7 +20,7 @@ pub(crate) fn algorithm(key: &[u8]) -> &'static Algorithm {
 }
 
 /// The header protection algorithm by AES for a key of 16 or 32 bytes.
-pub(crate) fn aes_of(key: &[u8]) -> &'static quic::Algorithm {
+pub(crate) fn header_algorithm(key: &[u8]) -> &'static quic::Algorithm {
     match key.len() {
         AES_128_KEY_LEN => &quic::AES_128,
         _ => &quic::AES_256,

@@ -122,7 +122,7 @@ impl<'k> UpdateBlocks for KeyRef<'k> {
         while let Some((pair, after)) = rest.split_first_chunk::<PAIR_LEN>() {
             let first = product::add(sum, u8x16::from_slice(&pair[..BLOCK_LEN]));
             let second = u8x16::from_slice(&pair[BLOCK_LEN..]);
-            sum = product::product_pair(self.products, self.squares, first, second);
+            sum = product::ghash_pair(self.products, self.squares, first, second);
             work.add_product();
             work.add_product();
             rest = after;

@@ -29,7 +29,7 @@ impl From<AllocError> for NoVector {
 fn main(rt: HostRuntime) -> io::Result<()> {
     let mut output = BufWriter::new(rt.alloc(), io::writer(&rt))?;
     for line in BufReader::new(rt.alloc(), rt.reader())?.lines(rt.alloc()) {
-        match response(rt.alloc(), line?.as_str()) {
+        match response_to_line(rt.alloc(), line?.as_str()) {
             Ok(text) => writeln!(output, "{text}")?,
             Err(NoVector) => writeln!(output, "bad line")?,
         }
@@ -38,11 +38,11 @@ fn main(rt: HostRuntime) -> io::Result<()> {
 }
 
 /// Returns the response to a line.
-fn response(alloc: Global, line: &str) -> Result<String, NoVector> {
+fn response_to_line(alloc: Global, line: &str) -> Result<String, NoVector> {
     let mut words = line.split_whitespace();
     let verb = words.next().ok_or(NoVector)?;
     let mut fields = fields(alloc, words)?;
-    respond(alloc, verb, &mut fields)
+    seal_or_open(alloc, verb, &mut fields)
 }
 
 /// Reads words: bytes in hex, or `-` for none.
@@ -60,10 +60,10 @@ fn field(alloc: Global, word: &str) -> Result<Vec<u8>, NoVector> {
 }
 
 /// Seals or opens, as the verb says.
-fn respond(alloc: Global, verb: &str, fields: &mut [Vec<u8>]) -> Result<String, NoVector> {
+fn seal_or_open(alloc: Global, verb: &str, fields: &mut [Vec<u8>]) -> Result<String, NoVector> {
     match (verb, fields) {
-        ("seal", [key, iv, aad, in_out]) => seal(alloc, key, iv, aad, in_out),
-        ("open", [key, iv, aad, in_out, tag]) => open(alloc, key, iv, aad, in_out, tag),
+        ("seal", [key, iv, aad, in_out]) => seal_by_both(alloc, key, iv, aad, in_out),
+        ("open", [key, iv, aad, in_out, tag]) => open_by_both(alloc, key, iv, aad, in_out, tag),
         _ => Err(NoVector),
     }
 }
@@ -88,7 +88,7 @@ fn differs(alloc: Global) -> Result<String, NoVector> {
 }
 
 /// Seals a plaintext by both keys, and returns CT TAG.
-fn seal(
+fn seal_by_both(
     alloc: Global,
     key: &[u8],
     iv: &[u8],
@@ -112,7 +112,7 @@ fn seal(
 }
 
 /// Opens a ciphertext by both keys, and returns PT, or FAIL and the buffer as the calls left it.
-fn open(
+fn open_by_both(
     alloc: Global,
     key: &[u8],
     iv: &[u8],

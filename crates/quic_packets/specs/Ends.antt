@@ -8,7 +8,7 @@ use Rattle.quic_packets.specs.FixedBit.{lacks_fixed_bit}
 use Rattle.quic_packets.specs.Header.{HasSample}
 use Rattle.quic_packets.specs.Keys.{secret_header_key, secret_key}
 use Rattle.quic_packets.specs.Receiving.{Receiver, with_next}
-use Rattle.quic_packets.specs.Sending.{IsEncodable, IsRoom, IsSealable, Sender, after_derived_update, after_send, header_version, lacks_protection, new_sender, with_installed_keys}
+use Rattle.quic_packets.specs.Sending.{IsEncodable, IsRoom, IsSealable, Sender, after_derived_update, after_send, header_version, is_retry_or_version_negotiation, new_sender, with_installed_keys}
 use Rattle.quic_packets.specs.Space.{Space, new_space}
 use Rattle.quic_packets.specs.Versions.{is_other_version}
 use Rattle.quic_packets.specs.declared.send_error.SendError.{SendError}
@@ -146,16 +146,16 @@ pub record Refuses (s : Sender) (fixed_bit : FixedBit) (start end : ℕ) (packet
   pub first_byte : IsErrOf result NumberAtFirstByte ↔ (PacketFits end (length packet) × (start ≡ 0))
   pub no_sample : IsErrOf result NoSample ↔ (PacketFits end (length packet) × (0 < start) × (length packet < start + 20))
   pub no_protection : IsErrOf result NoProtection
-      ↔ (PacketFits end (length packet) × HasSample start (length packet) × IsTrue (lacks_protection s.version packet))
+      ↔ (PacketFits end (length packet) × HasSample start (length packet) × IsTrue (is_retry_or_version_negotiation s.version packet))
   pub other_version : IsErrOf result OtherVersion
-      ↔ (PacketFits end (length packet) × HasSample start (length packet) × IsFalse (lacks_protection s.version packet)
+      ↔ (PacketFits end (length packet) × HasSample start (length packet) × IsFalse (is_retry_or_version_negotiation s.version packet)
       × IsTrue (is_other_version s.version (header_version packet)))
   pub no_fixed_bit : IsErrOf result NoFixedBit
-      ↔ (PacketFits end (length packet) × HasSample start (length packet) × IsFalse (lacks_protection s.version packet)
+      ↔ (PacketFits end (length packet) × HasSample start (length packet) × IsFalse (is_retry_or_version_negotiation s.version packet)
       × IsFalse (is_other_version s.version (header_version packet))
       × IsTrue (lacks_fixed_bit fixed_bit (header_version packet) (slice_index packet 0)))
   pub empty : IsErrOf result EmptyPayload
-      ↔ (PacketFits end (length packet) × HasSample start (length packet) × IsFalse (lacks_protection s.version packet)
+      ↔ (PacketFits end (length packet) × HasSample start (length packet) × IsFalse (is_retry_or_version_negotiation s.version packet)
       × IsFalse (is_other_version s.version (header_version packet))
       × IsFalse (lacks_fixed_bit fixed_bit (header_version packet) (slice_index packet 0)) × (length packet ≡ end + 16))
   pub ended : IsErrOf result NumbersEnded ↔ (IsSealable s.version fixed_bit start end packet × (s.next ≡ 2 ^ 62))

@@ -73,8 +73,8 @@ is_long first = bit_and first 0x80 == 0x80
 
 -- a long header of a type without protection: Version Negotiation, whose version is 0, or Retry, by its type bits in this
 -- version (RFC 9000 sections 17.2.1 and 17.2.5, RFC 9369 section 3.2)
-abbrev pub lacks_protection : Version → List ℕ → Bool
-lacks_protection version packet =
+abbrev pub is_retry_or_version_negotiation : Version → List ℕ → Bool
+is_retry_or_version_negotiation version packet =
     is_long (slice_index packet 0) && (bits_of (slice_index packet 0) == (type_bits version).retry
     || (slice_index packet 1 == 0 && slice_index packet 2 == 0 && slice_index packet 3 == 0 && slice_index packet 4 == 0))
 
@@ -102,7 +102,7 @@ header_version packet = if is_long (slice_index packet 0) then Some (version_of 
 pub record IsSealable (version : Version) (fixed_bit : FixedBit) (start end : ℕ) (packet : List ℕ) : Type 0 where
   pub fits : PacketFits end (length packet)
   pub sample : HasSample start (length packet)
-  pub protected : lacks_protection version packet ≡ false
+  pub protected : is_retry_or_version_negotiation version packet ≡ false
   pub of_version : is_other_version version (header_version packet) ≡ false
   pub fixed : lacks_fixed_bit fixed_bit (header_version packet) (slice_index packet 0) ≡ false
   pub payload : end + 16 < length packet

@@ -448,7 +448,7 @@ impl Connection {
             });
         };
         let next = parts.end;
-        if !is_own(datagram, &parts, id) {
+        if !is_own_packet(datagram, &parts, id) {
             return Err(Step {
                 next,
                 incoming: Incoming::Ignored,
@@ -541,7 +541,7 @@ fn end_of(packet: &Result<Packet, DatagramError>, len: usize) -> usize
 }
 
 /// Whether a packet has this destination ID, and is of a type that has keys.
-fn is_own(datagram: &[u8], parts: &Packet, id: &[u8]) -> bool
+fn is_own_packet(datagram: &[u8], parts: &Packet, id: &[u8]) -> bool
     requires { (parts.now.destination_id.start ≤ parts.now.destination_id.end)
         × (parts.now.destination_id.end ≤ length datagram.now) }
     ensures { IsTrue result ↔ IsOwn id.now datagram.now parts.now }

@@ -136,13 +136,13 @@ fn parts_at(
         return Err(DatagramError::Cut);
     }
     if is_long(datagram[start]) {
-        long_packet(datagram, start)
+        parse_long_packet(datagram, start)
     } else {
-        short_packet(datagram, start, connection_id_len)
+        parse_short_packet(datagram, start, connection_id_len)
     }
 }
 
-fn short_packet(
+fn parse_short_packet(
     datagram: &[u8],
     start: usize,
     connection_id_len: usize,
@@ -166,16 +166,16 @@ fn short_packet(
     })
 }
 
-fn long_packet(datagram: &[u8], start: usize) -> Result<Packet, DatagramError>
+fn parse_long_packet(datagram: &[u8], start: usize) -> Result<Packet, DatagramError>
     requires { start < length datagram.now }
     ensures { result ≡ long_packet datagram.now start }
 {
-    let (number, opaque) = opaque_packet(datagram, start)?;
-    versioned_packet(datagram, number, opaque)
+    let (number, opaque) = parse_invariants(datagram, start)?;
+    parse_versioned_packet(datagram, number, opaque)
 }
 
 /// The version of a long header, and what it has in every version: the parts of a packet of another version.
-fn opaque_packet(datagram: &[u8], start: usize) -> Result<(u32, Packet), DatagramError>
+fn parse_invariants(datagram: &[u8], start: usize) -> Result<(u32, Packet), DatagramError>
     requires { start < length datagram.now }
     ensures version { IfOk result (λ read. read.0 ≡ version_of datagram.now start) }
     ensures packet { IfOk result (λ read. read.1 ≡ opaque_layout datagram.now start OtherVersion) }
@@ -232,7 +232,11 @@ fn id_end(datagram: &[u8], at: usize, longest: usize) -> Result<usize, DatagramE
 }
 
 /// Parses what a packet has in its version.
-fn versioned_packet(datagram: &[u8], number: u32, opaque: Packet) -> Result<Packet, DatagramError>
+fn parse_versioned_packet(
+    datagram: &[u8],
+    number: u32,
+    opaque: Packet,
+) -> Result<Packet, DatagramError>
     requires version { number ≡ version_of datagram.now opaque.start }
     requires packet { opaque ≡ opaque_layout datagram.now opaque.start OtherVersion }
     requires within { source_end datagram.now opaque.start ≤ length datagram.now }
@@ -247,14 +251,14 @@ fn versioned_packet(datagram: &[u8], number: u32, opaque: Packet) -> Result<Pack
     match Version::from_number(number) {
         Some(version) => {
             let packet_type = type_of(version, bits_of(datagram[opaque.start]));
-            typed_packet(datagram, packet_type, opaque)
+            parse_typed_packet(datagram, packet_type, opaque)
         }
         None => Ok(opaque),
     }
 }
 
 /// Parses a packet of version 1 or 2.
-fn typed_packet(
+fn parse_typed_packet(
     datagram: &[u8],
     packet_type: PacketType,
     opaque: Packet,
@@ -265,27 +269,27 @@ fn typed_packet(
 {
     let from = opaque.source_id.end;
     match packet_type {
-        PacketType::Initial => initial_packet(datagram, opaque),
-        PacketType::Retry => retry_packet(datagram, opaque),
-        _ => numbered_packet(datagram, packet_type, from..from, opaque),
+        PacketType::Initial => parse_initial_packet(datagram, opaque),
+        PacketType::Retry => parse_retry_packet(datagram, opaque),
+        _ => parse_numbered_packet(datagram, packet_type, from..from, opaque),
     }
 }
 
-fn initial_packet(datagram: &[u8], opaque: Packet) -> Result<Packet, DatagramError>
+fn parse_initial_packet(datagram: &[u8], opaque: Packet) -> Result<Packet, DatagramError>
     requires packet { opaque ≡ opaque_layout datagram.now opaque.start OtherVersion }
     requires within { source_end datagram.now opaque.start ≤ length datagram.now }
     ensures { result ≡ whole datagram.now
         (numbered_layout datagram.now opaque.start Initial (initial_token datagram.now opaque.start)) }
 {
-    let (len, at) = varint(datagram, opaque.source_id.end).ok_or(DatagramError::Cut)?;
+    let (len, at) = varint_at(datagram, opaque.source_id.end).ok_or(DatagramError::Cut)?;
     if datagram.len() - at < len {
         return Err(DatagramError::Cut);
     }
-    numbered_packet(datagram, PacketType::Initial, at..at + len, opaque)
+    parse_numbered_packet(datagram, PacketType::Initial, at..at + len, opaque)
 }
 
 /// Parses a packet with a packet number. The Length field follows the token.
-fn numbered_packet(
+fn parse_numbered_packet(
     datagram: &[u8],
     packet_type: PacketType,
     token: Range<usize>,
@@ -296,7 +300,7 @@ fn numbered_packet(
     requires token { token.end ≤ length datagram.now }
     ensures { result ≡ whole datagram.now (numbered_layout datagram.now opaque.start packet_type token) }
 {
-    let (len, number_at) = varint(datagram, token.end).ok_or(DatagramError::Cut)?;
+    let (len, number_at) = varint_at(datagram, token.end).ok_or(DatagramError::Cut)?;
     if datagram.len() - number_at < len {
         return Err(DatagramError::Cut);
     }
@@ -309,7 +313,7 @@ fn numbered_packet(
     })
 }
 
-fn retry_packet(datagram: &[u8], opaque: Packet) -> Result<Packet, DatagramError>
+fn parse_retry_packet(datagram: &[u8], opaque: Packet) -> Result<Packet, DatagramError>
     requires packet { opaque ≡ opaque_layout datagram.now opaque.start OtherVersion }
     requires within { source_end datagram.now opaque.start ≤ length datagram.now }
     ensures { result ≡ whole datagram.now (retry_layout datagram.now opaque.start) }
@@ -334,7 +338,7 @@ pub(crate) fn version(datagram: &[u8], start: usize) -> u32
 }
 
 /// The variable-length integer at a byte, and its end. `None` if the datagram ends before it does.
-fn varint(datagram: &[u8], at: usize) -> Option<(usize, usize)>
+fn varint_at(datagram: &[u8], at: usize) -> Option<(usize, usize)>
     ensures { MatchOption result (length datagram.now < varint_end datagram.now at)
         (λ read. (read.0 ≡ varint datagram.now at) × (read.1 ≡ varint_end datagram.now at)
         × (read.1 ≤ length datagram.now)) }

@@ -62,7 +62,7 @@ impl Failures {
     }
 
     /// Counts one more failure if the error is `Refused`.
-    pub(crate) fn note(&mut self, error: ReceiveError)
+    pub(crate) fn count_if_refused(&mut self, error: ReceiveError)
         requires { self.old.count < self.old.limit }
         ensures failed { error ≡ ReceiveError.Refused → self.new ≡ record self.old { count = self.old.count + 1 } }
         ensures others { error ≢ ReceiveError.Refused → self.new ≡ self.old }

@@ -81,7 +81,7 @@ impl HeaderKey {
         ensures first_kept { OnErr result (first.new ≡ first.old) }
         ensures number_kept { OnErr result (number.new ≡ number.old) }
     {
-        let mask = self.mask(sample, number)?;
+        let mask = self.mask_of_sample(sample, number)?;
         let number_len = number_len_in(*first);
         *first ^= first_mask(*first, mask[0]);
         mask_number(number, number_len, &mask);
@@ -109,7 +109,7 @@ impl HeaderKey {
         ensures first_kept { OnErr result (first.new ≡ first.old) }
         ensures number_kept { OnErr result (number.new ≡ number.old) }
     {
-        let mask = self.mask(sample, number)?;
+        let mask = self.mask_of_sample(sample, number)?;
         *first ^= first_mask(*first, mask[0]);
         mask_number(number, number_len_in(*first), &mask);
         Ok(())
@@ -169,7 +169,7 @@ impl HeaderKey {
     }
 
     /// The mask for a sample, with a packet number that is not too long.
-    fn mask(&self, sample: &[u8], number: &[u8]) -> Result<[u8; 5], MaskError>
+    fn mask_of_sample(&self, sample: &[u8], number: &[u8]) -> Result<[u8; 5], MaskError>
         ensures accepted { IsOk result ↔ ((length sample.now ≡ 16) × (length number.now ≤ 4)) }
         ensures no_sample { IsErrOf result MaskError.NoSample ↔ (length sample.now ≢ 16) }
         ensures number_len { IsErrOf result MaskError.NumberLength

@@ -331,7 +331,7 @@ impl Receiver {
                 Ok(received)
             }
             Err(error) => {
-                failures.note(error);
+                failures.count_if_refused(error);
                 Err(error)
             }
         }

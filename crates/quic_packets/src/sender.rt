@@ -8,7 +8,7 @@ ghost use Rattle.quic_packets.specs.FixedBit.{lacks_fixed_bit};
 ghost use Rattle.quic_packets.specs.Header.{HasSample};
 ghost use Rattle.quic_packets.specs.Keys.{header_key, packet_key, secret_header_key, secret_key};
 ghost use Rattle.quic_packets.specs.Packet.{IsNumber};
-ghost use Rattle.quic_packets.specs.Sending.{HasKeyLengths, IsEncodable, IsInTurn, IsOpen, IsRoom, IsSealable, IsSent, after_acknowledgement, after_send, after_skip, after_update, first_byte, header_version, lacks_protection, new_sender, numbered_packet, with_installed_keys, IsUnanswered, after_derived_update, is_unsent};
+ghost use Rattle.quic_packets.specs.Sending.{HasKeyLengths, IsEncodable, IsInTurn, IsOpen, IsRoom, IsSealable, IsSent, after_acknowledgement, after_send, after_skip, after_update, first_byte, header_version, is_retry_or_version_negotiation, new_sender, numbered_packet, with_installed_keys, IsUnanswered, after_derived_update, is_unsent};
 ghost use Rattle.quic_packets.specs.Versions.{is_other_version};
 
 use crate::datagram::version;
@@ -588,19 +588,19 @@ impl Sender {
             × (0 < number.start) × (length packet.old < number.start + 20)) }
         ensures no_protection { IsErrOf result SendError.NoProtection
             ↔ (PacketFits number.end (length packet.old) × HasSample number.start (length packet.old)
-            × IsTrue (lacks_protection self.old.version packet.old)) }
+            × IsTrue (is_retry_or_version_negotiation self.old.version packet.old)) }
         ensures other_version { IsErrOf result SendError.OtherVersion
             ↔ (PacketFits number.end (length packet.old) × HasSample number.start (length packet.old)
-            × IsFalse (lacks_protection self.old.version packet.old)
+            × IsFalse (is_retry_or_version_negotiation self.old.version packet.old)
             × IsTrue (is_other_version self.old.version (header_version packet.old))) }
         ensures no_fixed_bit { IsErrOf result SendError.NoFixedBit
             ↔ (PacketFits number.end (length packet.old) × HasSample number.start (length packet.old)
-            × IsFalse (lacks_protection self.old.version packet.old)
+            × IsFalse (is_retry_or_version_negotiation self.old.version packet.old)
             × IsFalse (is_other_version self.old.version (header_version packet.old))
             × IsTrue (lacks_fixed_bit fixed_bit (header_version packet.old) (slice_index packet.old 0))) }
         ensures empty { IsErrOf result SendError.EmptyPayload
             ↔ (PacketFits number.end (length packet.old) × HasSample number.start (length packet.old)
-            × IsFalse (lacks_protection self.old.version packet.old)
+            × IsFalse (is_retry_or_version_negotiation self.old.version packet.old)
             × IsFalse (is_other_version self.old.version (header_version packet.old))
             × IsFalse (lacks_fixed_bit fixed_bit (header_version packet.old) (slice_index packet.old 0))
             × (length packet.old ≡ number.end + 16)) }
@@ -692,19 +692,19 @@ fn check_packet(
         × (0 < number_at) × (length packet.now < number_at + 20)) }
     ensures no_protection { IsErrOf result SendError.NoProtection
         ↔ (PacketFits header_len (length packet.now) × HasSample number_at (length packet.now)
-        × IsTrue (lacks_protection version packet.now)) }
+        × IsTrue (is_retry_or_version_negotiation version packet.now)) }
     ensures other_version { IsErrOf result SendError.OtherVersion
         ↔ (PacketFits header_len (length packet.now) × HasSample number_at (length packet.now)
-        × IsFalse (lacks_protection version packet.now)
+        × IsFalse (is_retry_or_version_negotiation version packet.now)
         × IsTrue (is_other_version version (header_version packet.now))) }
     ensures no_fixed_bit { IsErrOf result SendError.NoFixedBit
         ↔ (PacketFits header_len (length packet.now) × HasSample number_at (length packet.now)
-        × IsFalse (lacks_protection version packet.now)
+        × IsFalse (is_retry_or_version_negotiation version packet.now)
         × IsFalse (is_other_version version (header_version packet.now))
         × IsTrue (lacks_fixed_bit fixed_bit (header_version packet.now) (slice_index packet.now 0))) }
     ensures empty { IsErrOf result SendError.EmptyPayload
         ↔ (PacketFits header_len (length packet.now) × HasSample number_at (length packet.now)
-        × IsFalse (lacks_protection version packet.now)
+        × IsFalse (is_retry_or_version_negotiation version packet.now)
         × IsFalse (is_other_version version (header_version packet.now))
         × IsFalse (lacks_fixed_bit fixed_bit (header_version packet.now) (slice_index packet.now 0))
         × (length packet.now ≡ header_len + 16)) }
@@ -722,7 +722,7 @@ fn check_packet(
     if packet.len() < SAMPLE_END || packet.len() - SAMPLE_END < number_at {
         return Err(SendError::NoSample);
     }
-    if lacks_protection(version, packet) {
+    if is_retry_or_version_negotiation(version, packet) {
         return Err(SendError::NoProtection);
     }
     let number = header_version(packet);
@@ -751,9 +751,9 @@ fn header_version(packet: &[u8]) -> Option<u32>
 }
 
 /// Whether the header is of a type without protection: Version Negotiation or, by the bits of this version, Retry.
-fn lacks_protection(version: Version, packet: &[u8]) -> bool
+fn is_retry_or_version_negotiation(version: Version, packet: &[u8]) -> bool
     requires { 5 ≤ length packet.now }
-    ensures { result ≡ lacks_protection version packet.now }
+    ensures { result ≡ is_retry_or_version_negotiation version packet.now }
 {
     let is_retry = bits_of(packet[0]) == type_bits(version).retry;
     let is_version_negotiation = packet[1] == 0

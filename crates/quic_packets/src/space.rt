@@ -61,7 +61,7 @@ impl<const W: usize> Space<W> {
         if number >= self.next {
             return true;
         }
-        self.next - number <= WORD * W as u64 && !is_set(&self.seen, number)
+        self.next - number <= WORD * W as u64 && !is_seen(&self.seen, number)
     }
 
     /// Returns the ranges of the numbers that were received, among those that the window reaches, from the highest down: the
@@ -179,7 +179,7 @@ fn word_of(words: usize, number: u64) -> usize
 }
 
 /// Whether the bit of a number is set.
-fn is_set(seen: &[u64], number: u64) -> bool
+fn is_seen(seen: &[u64], number: u64) -> bool
     requires { 0 < length seen.now }
     ensures { IsTrue result ↔ (bit_of seen.now number ≡ 1) }
 {

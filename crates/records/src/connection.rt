@@ -233,7 +233,7 @@ impl<'b> Connection<'b> {
         if self.is_closed {
             return Err(RecordError::Ended);
         }
-        let count = record_count(&self.writer, content.len());
+        let count = content_records(&self.writer, content.len());
         if count > self.writer.limit().saturating_sub(KEPT) {
             return Err(RecordError::KeyUsedUp);
         }
@@ -348,7 +348,7 @@ impl<'b> Connection<'b> {
 }
 
 /// The number of records as which a writer writes `len` bytes of application data.
-fn record_count(writer: &Writer, len: usize) -> u64
+fn content_records(writer: &Writer, len: usize) -> u64
     requires { 64 ≤ writer.now.key.size_limit }
     ensures { result ≡ content_records writer.now len }
 {

@@ -85,7 +85,7 @@ impl RecordKey {
     }
 
     /// The key of the next traffic secret of the direction, with the same size limit.
-    pub(crate) fn next_from_secret(&self, secret: &Secret) -> Self
+    pub(crate) fn from_next_secret(&self, secret: &Secret) -> Self
         requires { self.now.algorithm ≡ suite_algorithm secret.now.suite }
         ensures { result ≡ rekeyed self.now (record_key secret.now) (record_iv secret.now) }
     {

@@ -163,8 +163,8 @@ impl Writer {
             return Err(RecordError::NoSecret);
         };
         let next = secret.next_traffic();
-        let key = self.key.next_from_secret(&next);
-        self.continue_with(key, Some(next));
+        let key = self.key.from_next_secret(&next);
+        self.continue_with_key(key, Some(next));
         Ok(())
     }
 
@@ -186,12 +186,12 @@ impl Writer {
             return Err(RecordError::HasSecret);
         }
         let key = self.key.next(key, iv)?;
-        self.continue_with(key, None);
+        self.continue_with_key(key, None);
         Ok(())
     }
 
     /// Continues with this key and its secret, from number 0 (RFC 8446 section 5.3).
-    fn continue_with(&mut self, key: RecordKey, secret: Option<Secret>)
+    fn continue_with_key(&mut self, key: RecordKey, secret: Option<Secret>)
         requires { IfSome secret (λ s. IsKeyOf s key) }
         ensures { self.new ≡ record self.old { key = key; secret = secret; number = 0 } }
     {

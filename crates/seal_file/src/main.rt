@@ -35,7 +35,7 @@ const KEY_LEN: usize = 32;
 const MAX_PASSPHRASE_LEN: usize = 4096;
 
 fn main(rt: HostRuntime) -> ExitCode {
-    let request = match request_of(&rt) {
+    let request = match read_request(&rt) {
         Ok(request) => request,
         Err(failure) => return report(&rt, &Request::Help, &failure),
     };
@@ -46,22 +46,27 @@ fn main(rt: HostRuntime) -> ExitCode {
 }
 
 /// The request on the command line.
-fn request_of(rt: &HostRuntime) -> Result<Request, Failure> {
-    let words = at(Place::Console, options::all_words(rt))?;
-    Request::of_words(rt.alloc(), words)
+fn read_request(rt: &HostRuntime) -> Result<Request, Failure> {
+    let words = with_place(Place::Console, options::all_arguments(rt))?;
+    Request::from_arguments(rt.alloc(), words)
 }
 
 /// Writes to standard error why the program ends early, and returns its exit status.
 fn report(rt: &HostRuntime, request: &Request, failure: &Failure) -> ExitCode {
     let _ = match failure.place() {
-        Some(place) => say(rt, request, place, failure),
+        Some(place) => report_at(rt, request, place, failure),
         None => eprintln!(rt; "seal_file: {failure}"),
     };
     ExitCode::from(failure.status())
 }
 
 /// Writes a message about a file or a stream to standard error.
-fn say(rt: &HostRuntime, request: &Request, place: Place, failure: &Failure) -> io::Result<()> {
+fn report_at(
+    rt: &HostRuntime,
+    request: &Request,
+    place: Place,
+    failure: &Failure,
+) -> io::Result<()> {
     if let Some(name) = request.name_of(place) {
         return eprintln!(rt; "seal_file: {name}: {failure}");
     }
@@ -77,8 +82,8 @@ fn say(rt: &HostRuntime, request: &Request, place: Place, failure: &Failure) -> 
 
 fn run(rt: &HostRuntime, request: &Request) -> Result<(), Failure> {
     match request {
-        Request::Help => at(Place::Output, println!(rt; "{HELP}")),
-        Request::Version => at(Place::Output, println!(rt; "{VERSION}")),
+        Request::Help => with_place(Place::Output, println!(rt; "{HELP}")),
+        Request::Version => with_place(Place::Output, println!(rt; "{VERSION}")),
         Request::Inspect { file, key_file } => inspect(rt, file.as_ref(), key_file.as_ref()),
         Request::Keygen(name) => keygen(rt, name.as_ref()),
         Request::Convert(conversion) => convert(rt, conversion),
@@ -86,7 +91,7 @@ fn run(rt: &HostRuntime, request: &Request) -> Result<(), Failure> {
 }
 
 /// The outcome of a call, along with the place where it failed.
-fn at<T>(place: Place, outcome: io::Result<T>) -> Result<T, Failure> {
+fn with_place<T>(place: Place, outcome: io::Result<T>) -> Result<T, Failure> {
     outcome.map_err(|error| Failure::Io(place, error))
 }
 
@@ -96,23 +101,23 @@ fn keygen(rt: &HostRuntime, name: Option<&Name>) -> Result<(), Failure> {
         return Err(Failure::KeyTerminal);
     }
     let mut key = [0; KEY_LEN];
-    at(Place::Random, rt.fill_bytes(&mut key))?;
+    with_place(Place::Random, rt.fill_bytes(&mut key))?;
     let Some(name) = name else {
         let mut output = io::writer(rt);
-        at(Place::Output, output.write_all(&key))?;
-        return at(Place::Output, output.flush());
+        with_place(Place::Output, output.write_all(&key))?;
+        return with_place(Place::Output, output.flush());
     };
     check_free(rt, name)?;
     let mut file = new_file(rt, name, Access::Owner)?;
-    let written = at(Place::Output, file.write_all(&key));
+    let written = with_place(Place::Output, file.write_all(&key));
     file.finish(rt, name, written, false)
 }
 
 /// Creates the file that is to become the one with this name.
 fn new_file(rt: &HostRuntime, target: &Name, access: Access) -> Result<NewFile, Failure> {
     let mut number = [0; NUMBER_LEN];
-    at(Place::Random, rt.fill_bytes(&mut number))?;
-    at(Place::Output, NewFile::create(rt, target, number, access))
+    with_place(Place::Random, rt.fill_bytes(&mut number))?;
+    with_place(Place::Output, NewFile::create(rt, target, number, access))
 }
 
 /// Returns the first bytes of a file or of standard input, at most this many, and its metadata if it can be identified.
@@ -144,13 +149,13 @@ fn inspect(
     key_file: Option<&KeyFile>,
 ) -> Result<(), Failure> {
     let front = read_front(rt, name, PASSPHRASE_HEADER_LEN);
-    let (header, metadata) = at(Place::Input, front)?;
+    let (header, metadata) = with_place(Place::Input, front)?;
     let metadata = metadata.as_ref();
     match check_header(&header) {
-        Ok(()) => at(Place::Output, print_len(rt, metadata, None))?,
+        Ok(()) => with_place(Place::Output, print_len(rt, metadata, None))?,
         Err(FileError::AnotherVersion(PASSPHRASE_VERSION)) if key_file.is_none() => {
             let iterations = iterations_in(&header).map_err(Failure::Refused)?;
-            at(Place::Output, print_len(rt, metadata, Some(iterations)))?;
+            with_place(Place::Output, print_len(rt, metadata, Some(iterations)))?;
         }
         Err(error) => return Err(Failure::Refused(error)),
     }
@@ -159,12 +164,12 @@ fn inspect(
         if !key.is_of(&header) {
             return Err(Failure::Refused(FileError::WrongKey));
         }
-        at(
+        with_place(
             Place::Output,
             println!(rt; "the header commits to this key"),
         )?;
     }
-    at(Place::Output, println!(rt; "nothing else was checked"))
+    with_place(Place::Output, println!(rt; "nothing else was checked"))
 }
 
 /// Prints the version, the iterations if it is the one of passphrases, and the length of the file that a sealed file of this
@@ -203,7 +208,7 @@ fn convert<'r>(rt: &'r HostRuntime, conversion: &'r Conversion) -> Result<(), Fa
     }
     let (secret, of_secret) = read_secret(rt, &conversion.secret_file)?;
     let file = match &conversion.input {
-        Some(name) => Some(at(Place::Input, files::open(rt, name))?),
+        Some(name) => Some(with_place(Place::Input, files::open(rt, name))?),
         None => None,
     };
     let metadata = match &file {
@@ -273,18 +278,18 @@ impl<'r, 'a> Job<'r, 'a> {
     fn write<R: Read + Drop>(&self, input: Input<'_, '_, R>) -> Result<(), Failure> {
         let Some(name) = &self.conversion.output else {
             let mut output = io::writer(self.rt);
-            self.pass(input, &mut output)?;
-            return at(Place::Output, output.flush());
+            self.seal_or_open(input, &mut output)?;
+            return with_place(Place::Output, output.flush());
         };
         let has_force = self.conversion.has_force;
         let access = check_target(self.rt, name, self.inputs, has_force)?;
         let mut file = new_file(self.rt, name, access)?;
-        let written = self.pass(input, &mut file);
+        let written = self.seal_or_open(input, &mut file);
         file.finish(self.rt, name, written, has_force)
     }
 
     /// Seals or opens what is read.
-    fn pass<R: Read + Drop, W: Write>(
+    fn seal_or_open<R: Read + Drop, W: Write>(
         &self,
         input: Input<'_, '_, R>,
         output: &mut W,
@@ -296,12 +301,12 @@ impl<'r, 'a> Job<'r, 'a> {
         let mut source = match input {
             Input::Stream(source) => source,
             Input::Part(file, range, key) => {
-                return pass_part(self.rt, key, aad, file, range, output);
+                return write_range(self.rt, key, aad, file, range, output);
             }
         };
         let passed = match (self.conversion.action, self.conversion.range) {
             (Action::Seal, _) => {
-                let random = at(Place::Random, FileRandom::draw(self.rt))?;
+                let random = with_place(Place::Random, FileRandom::draw(self.rt))?;
                 self.seal(random, aad, &mut source, output)
             }
             (Action::Open, None) => self.open(aad, &mut source, output),
@@ -311,7 +316,7 @@ impl<'r, 'a> Job<'r, 'a> {
             }
         };
         source.end();
-        passed.map_err(|error| of_passing(error, source.has_failed()))
+        passed.map_err(|error| stream_failure(error, source.has_failed()))
     }
 
     /// Seals the bytes of `input`, with the iterations that passphrases have.
@@ -351,7 +356,7 @@ impl<'r, 'a> Job<'r, 'a> {
 }
 
 /// The failure of sealing or opening a stream, given whether reading it failed.
-fn of_passing(error: FileError, has_read_failed: bool) -> Failure {
+fn stream_failure(error: FileError, has_read_failed: bool) -> Failure {
     match error {
         FileError::Io(error) if has_read_failed => Failure::Io(Place::Input, error),
         FileError::Io(error) => Failure::Io(Place::Output, error),
@@ -368,7 +373,7 @@ fn buffer(alloc: Global) -> io::Result<Vec<u8>> {
 }
 
 /// Writes the bytes of a range of a sealed file.
-fn pass_part<W: Write>(
+fn write_range<W: Write>(
     rt: &HostRuntime,
     key: &FileKey,
     aad: &[u8],
@@ -381,26 +386,26 @@ fn pass_part<W: Write>(
     let mut reader = match SealedReader::new(rt.alloc(), key, aad, file, 0) {
         Ok(reader) => reader,
         Err(FileError::Refused(last)) => return Err(Failure::FirstRefused(last)),
-        Err(error) => return Err(of_reading(error)),
+        Err(error) => return Err(read_failure(error)),
     };
-    let mut buf = at(Place::Input, buffer(rt.alloc()))?;
+    let mut buf = with_place(Place::Input, buffer(rt.alloc()))?;
     let mut range = range;
     for _ in 0..u64::MAX {
         let asked = range.len.min(buf.len() as u64) as usize;
         let count = reader
             .read_at(range.start, &mut buf[..asked])
-            .map_err(of_reading)?;
+            .map_err(read_failure)?;
         if count == 0 {
             break;
         }
-        at(Place::Output, output.write_all(&buf[..count]))?;
+        with_place(Place::Output, output.write_all(&buf[..count]))?;
         range = range.after(count);
     }
     Ok(())
 }
 
 /// The failure of reading a sealed file.
-fn of_reading(error: FileError) -> Failure {
+fn read_failure(error: FileError) -> Failure {
     match error {
         FileError::Io(error) => Failure::Io(Place::Input, error),
         FileError::OutOfMemory => {
@@ -428,7 +433,12 @@ fn read_secret(
 }
 
 /// Warns if the key or the passphrase is in a regular file that others may read.
-fn warn_of_others(rt: &HostRuntime, name: Option<&Name>, metadata: Option<&Metadata>, what: &str) {
+fn warn_of_readable_secret(
+    rt: &HostRuntime,
+    name: Option<&Name>,
+    metadata: Option<&Metadata>,
+    what: &str,
+) {
     if !metadata.is_some_and(|it| it.is_file() && files::others_may_read(it)) {
         return;
     }
@@ -445,8 +455,8 @@ fn read_passphrase(
     name: Option<&Name>,
 ) -> Result<(Vec<u8>, Option<Metadata>), Failure> {
     let front = read_front(rt, name, MAX_PASSPHRASE_LEN + 2);
-    let (mut bytes, metadata) = at(Place::PassphraseFile, front)?;
-    warn_of_others(rt, name, metadata.as_ref(), "passphrase");
+    let (mut bytes, metadata) = with_place(Place::PassphraseFile, front)?;
+    warn_of_readable_secret(rt, name, metadata.as_ref(), "passphrase");
     if bytes.last() == Some(&b'\n') {
         bytes.pop();
         if bytes.last() == Some(&b'\r') {
@@ -462,8 +472,8 @@ fn read_passphrase(
 /// Returns the key in a file of 32 bytes, or on standard input, and the metadata of the file.
 fn read_key(rt: &HostRuntime, key_file: &KeyFile) -> Result<(FileKey, Option<Metadata>), Failure> {
     let name = key_file.name.as_ref();
-    let (bytes, metadata) = at(Place::KeyFile, read_front(rt, name, KEY_LEN + 1))?;
-    warn_of_others(rt, name, metadata.as_ref(), "key");
+    let (bytes, metadata) = with_place(Place::KeyFile, read_front(rt, name, KEY_LEN + 1))?;
+    warn_of_readable_secret(rt, name, metadata.as_ref(), "key");
     let key = FileKey::new(&bytes).map_err(|_| Failure::KeyLength)?;
     Ok((key, metadata))
 }

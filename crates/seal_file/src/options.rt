@@ -139,7 +139,7 @@ enum Valued {
 
 /// The arguments so far.
 #[derive(Drop)]
-struct Words {
+struct Arguments {
     verb: Option<Verb>,
     key_file: Option<Name>,
     passphrase_file: Option<Name>,
@@ -155,10 +155,10 @@ struct Words {
 }
 
 /// Returns the arguments of the program, without its name.
-pub fn all_words(rt: &HostRuntime) -> io::Result<Vec<Name>> {
+pub fn all_arguments(rt: &HostRuntime) -> io::Result<Vec<Name>> {
     let mut all = Vec::new(rt.alloc());
     for i in 1..usize::MAX {
-        match word(rt, i)? {
+        match argument(rt, i)? {
             Some(word) => all
                 .push(word)
                 .map_err(|_| io::Error::from(io::ErrorKind::OutOfMemory))?,
@@ -169,7 +169,7 @@ pub fn all_words(rt: &HostRuntime) -> io::Result<Vec<Name>> {
 }
 
 /// The argument with this number, if there is one.
-fn word(rt: &HostRuntime, i: usize) -> io::Result<Option<Name>> {
+fn argument(rt: &HostRuntime, i: usize) -> io::Result<Option<Name>> {
     let mut bytes = Vec::new(rt.alloc());
     let mut room = 256usize;
     for _ in 0..24 {
@@ -208,9 +208,9 @@ fn set<T: Drop>(place: &mut Option<T>, value: T) -> Result<(), Failure> {
     Ok(())
 }
 
-impl Words {
-    fn new() -> Words {
-        Words {
+impl Arguments {
+    fn new() -> Arguments {
+        Arguments {
             verb: None,
             key_file: None,
             passphrase_file: None,
@@ -256,8 +256,8 @@ impl Words {
 
     /// Takes an option, with its value if that is in the same word. Returns the option whose value comes next, if there is one.
     fn take_option(&mut self, alloc: Global, word: Name) -> Result<Option<Valued>, Failure> {
-        let (name, value) = parts_of(word.as_bytes());
-        let Some(option) = valued_of(name) else {
+        let (name, value) = option_and_value(word.as_bytes());
+        let Some(option) = valued_option(name) else {
             self.take_flag(&word)?;
             return Ok(None);
         };
@@ -269,7 +269,7 @@ impl Words {
     }
 
     /// Takes an argument that is not an option: the command, and then IN.
-    fn take_word(&mut self, word: Name) -> Result<(), Failure> {
+    fn take_operand(&mut self, word: Name) -> Result<(), Failure> {
         if self.verb.is_some() {
             if self.input.is_some() {
                 return Err(Failure::Use(anyhow!("unexpected argument {word}")));
@@ -325,14 +325,14 @@ impl Words {
     }
 }
 
-impl Words {
+impl Arguments {
     /// Returns the request to seal or to open.
     fn conversion(self, action: Action) -> Result<Request, Failure> {
         let range = self.range();
         if range.is_some() && !matches!(action, Action::Open) {
             return Err(Failure::Use(anyhow!("--range is an option of open alone")));
         }
-        let Words {
+        let Arguments {
             key_file,
             passphrase_file,
             input,
@@ -345,7 +345,7 @@ impl Words {
         let secret_file = secret_file_of(key_file, passphrase_file)?;
         let input = input.and_then(file_of);
         if input.is_none() && secret_file.name().is_none() {
-            let what = secret_file.what();
+            let what = secret_file.kind_name();
             return Err(Failure::Use(anyhow!("standard input is both IN and the {what}")));
         }
         let has_named_stdout = output.as_ref().is_some_and(is_stream);
@@ -371,7 +371,7 @@ impl Words {
         if self.output.is_some() || self.has_conversion_options() {
             return Err(Failure::Use(anyhow!("inspect takes [-k KEYFILE] FILE alone")));
         }
-        let Words {
+        let Arguments {
             key_file,
             input,
             ..
@@ -392,7 +392,7 @@ impl Words {
         if self.input.is_some() || self.key_file.is_some() || self.has_conversion_options() {
             return Err(Failure::Use(anyhow!("keygen takes -o KEYFILE alone")));
         }
-        let Words { output, .. } = self;
+        let Arguments { output, .. } = self;
         let Some(output) = output else {
             return Err(Failure::Use(anyhow!("missing -o KEYFILE")));
         };
@@ -402,15 +402,15 @@ impl Words {
 
 impl Request {
     /// Returns the request of these arguments. After `--`, no argument is an option.
-    pub fn of_words(alloc: Global, all: Vec<Name>) -> Result<Request, Failure> {
-        let mut words = Words::new();
+    pub fn from_arguments(alloc: Global, all: Vec<Name>) -> Result<Request, Failure> {
+        let mut words = Arguments::new();
         let mut option = None;
         let mut has_ended = false;
         for word in all {
             if let Some(valued) = option.take() {
                 option = words.take_value(valued, word)?;
             } else if has_ended || !is_option(&word) {
-                words.take_word(word)?;
+                words.take_operand(word)?;
             } else if word.as_bytes() == b"--".as_slice() {
                 has_ended = true;
             } else {
@@ -452,7 +452,7 @@ impl SecretFile {
     }
 
     /// Returns what the file has.
-    fn what(&self) -> &'static str {
+    fn kind_name(&self) -> &'static str {
         match self {
             SecretFile::Key(_) => "key",
             SecretFile::Passphrase(_) => "passphrase",
@@ -500,7 +500,7 @@ fn key_file_of(name: Name) -> KeyFile {
 }
 
 /// The name of an option, and its value if that is in the same word: `--output=OUT`, `-oOUT`.
-fn parts_of(word: &[u8]) -> (&[u8], Option<&[u8]>) {
+fn option_and_value(word: &[u8]) -> (&[u8], Option<&[u8]>) {
     if word.starts_with(b"--") {
         return match word.iter().position(|byte| *byte == b'=') {
             Some(at) => (&word[..at], Some(&word[at + 1..])),
@@ -515,7 +515,7 @@ fn parts_of(word: &[u8]) -> (&[u8], Option<&[u8]>) {
 }
 
 /// The option with this name that takes a value.
-fn valued_of(name: &[u8]) -> Option<Valued> {
+fn valued_option(name: &[u8]) -> Option<Valued> {
     match name {
         b"-k" | b"--key" => Some(Valued::Key),
         b"--passphrase-file" => Some(Valued::Passphrase),

@@ -32,7 +32,7 @@ pub struct Inputs<'a> {
 
 impl Inputs<'_> {
     /// Checks that a file is none of these.
-    fn check_apart(self, there: &Metadata) -> Result<(), Failure> {
+    fn check_not_input(self, there: &Metadata) -> Result<(), Failure> {
         if self.input.is_some_and(|from| files::are_same(from, there)) {
             return Err(Failure::SameFile);
         }
@@ -63,8 +63,8 @@ pub enum Access {
 }
 
 impl Access {
-    /// The mode that the file is created with, less the process's umask. It gives the group and others nothing that `give` takes
-    /// back.
+    /// The mode that the file is created with, less the process's umask. It gives the group and others nothing that `apply_to`
+    /// takes back.
     fn first_mode(self) -> u32 {
         match self {
             Access::New => 0o666,
@@ -77,7 +77,7 @@ impl Access {
     ///
     /// If its group is not that of the file that it replaces, whoever was of the group may now be one of the others, and the other
     /// way round: group and others get what both had.
-    fn give(self, file: &File) -> io::Result<()> {
+    fn apply_to(self, file: &File) -> io::Result<()> {
         match self {
             Access::New => Ok(()),
             Access::Owner => files::set_mode(file, self.first_mode()),
@@ -110,7 +110,7 @@ pub fn check_target(
         }
         Err(error) => return Err(Failure::Io(Place::Output, error)),
     };
-    inputs.check_apart(&there)?;
+    inputs.check_not_input(&there)?;
     if !has_force {
         return Err(Failure::Exists);
     }
@@ -145,7 +145,7 @@ impl NewFile {
         let end = format!(in rt.alloc(); ".part-{number:016x}")?;
         let name = target.with_end(rt.alloc(), end.as_bytes())?;
         let file = files::create_new(rt, &name, access.first_mode())?;
-        if let Err(error) = access.give(&file) {
+        if let Err(error) = access.apply_to(&file) {
             let _ = files::remove(rt, &name);
             return Err(error);
         }
@@ -208,7 +208,7 @@ impl SyncedFile {
         let named = if has_force {
             files::rename(rt, &name, target)
         } else {
-            name_once(rt, &name, target)
+            rename_no_replace(rt, &name, target)
         };
         match named {
             Ok(()) => Ok(()),
@@ -227,7 +227,7 @@ impl SyncedFile {
 ///
 /// The file first gets it as a second name. If the file system has no second names, an empty file takes the name, which is then
 /// replaced.
-fn name_once(rt: &HostRuntime, from: &Name, to: &Name) -> io::Result<()> {
+fn rename_no_replace(rt: &HostRuntime, from: &Name, to: &Name) -> io::Result<()> {
     match files::link(rt, from, to) {
         Ok(()) => files::remove(rt, from),
         Err(error) if error.kind() == ErrorKind::AlreadyExists => Err(error),

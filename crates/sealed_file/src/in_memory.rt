@@ -47,7 +47,7 @@ fn append(bytes: &[u8], out: &mut Vec<u8>)
 }
 
 /// Seals the chunk that is `bytes` from `start` on, at most `CHUNK_LEN` bytes, in place, and returns its tag.
-fn seal_from(
+fn seal_tail(
     cipher: &ChunkCipher,
     number: u32,
     is_last: bool,
@@ -73,7 +73,7 @@ fn append_sealed(cipher: &ChunkCipher, number: u32, is_last: bool, chunk: &[u8],
 {
     let start = out.len();
     append(chunk, out);
-    let tag = seal_from(cipher, number, is_last, out, start);
+    let tag = seal_tail(cipher, number, is_last, out, start);
     append(tag.as_ref(), out);
 }
 
@@ -134,7 +134,7 @@ pub fn seal_bytes(
 }
 
 /// Decrypts the ciphertext that is `bytes` from `start` on, at most `CHUNK_LEN` bytes.
-fn open_from(
+fn open_tail(
     cipher: &ChunkCipher,
     number: u32,
     is_last: bool,
@@ -179,7 +179,7 @@ pub(crate) fn append_opened(
     };
     let start = out.len();
     append(ciphertext, out);
-    open_from(cipher, number, is_last, tag, out, start)
+    open_tail(cipher, number, is_last, tag, out, start)
 }
 
 /// The bytes after the header of a sealed file.
@@ -205,7 +205,7 @@ fn chunk_of(sealed: &[u8], number: u32) -> &[u8]
 }
 
 /// The length of the file that a sealed file opens to.
-fn opened_len(sealed: &[u8]) -> usize
+fn opened_file_len(sealed: &[u8]) -> usize
     ensures { (s : Secret) → result ≡ length (opened_file s sealed.now) }
 {
     let last = last_chunk_of(sealed);
@@ -214,7 +214,7 @@ fn opened_len(sealed: &[u8]) -> usize
 }
 
 /// `open_bytes`, except that on an error bytes may follow those that `out` held.
-fn append_file(key: &FileKey, sealed: &[u8], out: &mut Vec<u8>) -> Result<(), FileError>
+fn append_opened_file(key: &FileKey, sealed: &[u8], out: &mut Vec<u8>) -> Result<(), FileError>
     ensures front { take (vec_len out.old) out.new.items ≡ out.old.items }
     ensures accepted { IsOk result → IsSealed (secret key.now []) sealed.now }
     ensures opened { OnOk result (out.new.items
@@ -225,7 +225,7 @@ fn append_file(key: &FileKey, sealed: &[u8], out: &mut Vec<u8>) -> Result<(), Fi
 {
     let cipher = cipher_of(VERSION, key, &[], sealed)?;
     let last = last_chunk_of(sealed);
-    out.reserve(opened_len(sealed))?;
+    out.reserve(opened_file_len(sealed))?;
     for number in 0..MAX_CHUNKS {
         let chunk = chunk_of(sealed, number);
         let is_last = number as usize == last;
@@ -253,7 +253,7 @@ pub fn open_bytes(key: &FileKey, sealed: &[u8], out: &mut Vec<u8>) -> Result<(),
     ensures kept { OnErr result (out.new.items ≡ out.old.items) }
 {
     let len = out.len();
-    let opened = append_file(key, sealed, out);
+    let opened = append_opened_file(key, sealed, out);
     if opened.is_err() {
         out.truncate(len);
     }

@@ -129,7 +129,7 @@ struct Unlocked {
 }
 
 /// What the file that begins with these bytes and has these iterations is sealed under, if it is under this passphrase.
-fn unlock(
+fn derive_key_and_aad(
     alloc: Global,
     passphrase: &[u8],
     aad: &[u8],
@@ -175,7 +175,7 @@ pub fn open_with_passphrase<R: Read, W: Write>(
     let mut header = Vec::new(alloc);
     read_piece(input, PASSPHRASE_HEADER_LEN, &mut header)?;
     let iterations = iterations_in(&header)?;
-    let unlocked = unlock(alloc, passphrase, aad, &header, iterations)?;
+    let unlocked = derive_key_and_aad(alloc, passphrase, aad, &header, iterations)?;
     let mut core = read_header(&header).chain(input);
     open_version(
         alloc,

@@ -64,7 +64,7 @@ pub(crate) fn bytes_from(bytes: &[u8], at: u64) -> &[u8]
 }
 
 /// Copies the bytes from `at` on into the front of `buf`, as many as there are and fit, and returns how many.
-pub(crate) fn copy_from(bytes: &[u8], at: u64, buf: &mut [u8]) -> usize
+pub(crate) fn read_slice_at(bytes: &[u8], at: u64, buf: &mut [u8]) -> usize
     ensures count { result ≡ min (length buf.old) (length bytes.now - at) }
     ensures copied { take result buf.new ≡ take result (drop at bytes.now) }
     ensures rest { drop result buf.new ≡ drop result buf.old }
@@ -86,7 +86,7 @@ impl ReadAt for &[u8] {
 
     fn read_at(&mut self, at: u64, buf: &mut [u8]) -> io::Result<usize> {
         let all: &[u8] = *self;
-        Ok(copy_from(all, at, buf))
+        Ok(read_slice_at(all, at, buf))
     }
 }
 
@@ -100,7 +100,7 @@ impl<T: AsBytes> ReadAt for Cursor<T> {
     }
 
     fn read_at(&mut self, at: u64, buf: &mut [u8]) -> io::Result<usize> {
-        Ok(copy_from(self.get_ref().as_byte_slice(), at, buf))
+        Ok(read_slice_at(self.get_ref().as_byte_slice(), at, buf))
     }
 }
 

@@ -10,7 +10,7 @@ use crate::chunk::{CHUNK_LEN, MAX_CHUNKS, SEALED_CHUNK_LEN, open_ciphertext};
 use crate::error::FileError;
 use crate::header::{ChunkCipher, HEADER_LEN, VERSION, cipher_of};
 use crate::key::FileKey;
-use crate::read_at::{ReadAt, copy_from};
+use crate::read_at::{ReadAt, read_slice_at};
 use aead_ciphers::aead::MAX_TAG_LEN;
 use std::alloc::Global;
 use std::marker::Model;
@@ -113,7 +113,7 @@ fn place_of(offset: u64, last: u32, last_len: usize) -> Option<(u32, u64)>
 }
 
 /// Reads the header of the file that begins at `start`, and returns the key of its chunks.
-fn begin<R: ReadAt>(
+fn read_chunk_cipher<R: ReadAt>(
     input: &mut R,
     start: u64,
     key: &FileKey,
@@ -167,7 +167,7 @@ fn layout_of<R: ReadAt>(input: &mut R, start: u64) -> Result<Layout, FileError>
 }
 
 /// Fills `buf` with the bytes from `at` on. Fails with `EndsEarly` if there are fewer.
-fn fill_from<R: ReadAt>(input: &mut R, at: u64, buf: &mut [u8]) -> Result<(), FileError>
+fn read_exact_at<R: ReadAt>(input: &mut R, at: u64, buf: &mut [u8]) -> Result<(), FileError>
     ensures len { length buf.new ≡ length buf.old }
     ensures known { IfSome (R.bytes input.old) (λ all. length buf.old ≤ length all - at → IsOk result) }
     ensures value { IfSome (R.bytes input.old) (λ all. OnOk result (buf.new ≡ take (length buf.old) (drop at all))) }
@@ -221,7 +221,7 @@ fn open_from<R: ReadAt>(
     ensures len { length sealed.new ≡ length sealed.old }
     ensures same { R.bytes input.new ≡ R.bytes input.old }
 {
-    fill_from(input, at, sealed)?;
+    read_exact_at(input, at, sealed)?;
     open_slice(cipher, number, is_last, sealed)
 }
 
@@ -313,7 +313,7 @@ impl<R: ReadAt + Drop> SealedReader<R> {
         ensures refused { IfSome (file_from start (R.bytes input)) (λ file. IfErr result (λ error.
             FailsInMemory (vec_capacity buffer < sealed_chunk_len) (ReaderRefuses (secret key.now aad.now) file) error)) }
     {
-        let cipher = begin(&mut input, start, key, aad)?;
+        let cipher = read_chunk_cipher(&mut input, start, key, aad)?;
         let layout = layout_of(&mut input, start)?;
         buffer.resize(SEALED_CHUNK_LEN, 0)?;
         open_chunk_of(&mut input, layout, &cipher, layout.last, &mut buffer)?;
@@ -363,7 +363,7 @@ impl<R: ReadAt + Drop> SealedReader<R> {
         }
         let len = len_of(number, last, last_len);
         if self.held == Some(number) {
-            return Ok(copy_from(&self.buffer[..len], at, buf));
+            return Ok(read_slice_at(&self.buffer[..len], at, buf));
         }
         self.held = None;
         open_chunk_of(
@@ -373,7 +373,7 @@ impl<R: ReadAt + Drop> SealedReader<R> {
             number,
             &mut self.buffer,
         )?;
-        let count = copy_from(&self.buffer[..len], at, buf);
+        let count = read_slice_at(&self.buffer[..len], at, buf);
         self.held = Some(number);
         Ok(count)
     }

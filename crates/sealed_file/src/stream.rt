@@ -26,7 +26,7 @@ pub(crate) fn buffers(alloc: Global) -> io::Result<(Vec<u8>, Vec<u8>)>
 }
 
 /// Reads once into `buf` from `at` on.
-fn read_at<R: Read>(input: &mut R, buf: &mut [u8], at: usize) -> io::Result<usize>
+fn read_once_at<R: Read>(input: &mut R, buf: &mut [u8], at: usize) -> io::Result<usize>
     requires { at < length buf.old }
     ensures front { take at buf.new ≡ take at buf.old }
     ensures fits { IfOk result (λ n. at + n ≤ length buf.new) }
@@ -49,7 +49,7 @@ pub(crate) fn fill<R: Read>(input: &mut R, buf: &mut [u8]) -> io::Result<usize>
         if filled >= buf.len() {
             return Ok(filled);
         }
-        match read_at(input, buf, filled) {
+        match read_once_at(input, buf, filled) {
             Ok(0) => return Ok(filled),
             Ok(n) => filled += n,
             Err(error) => {

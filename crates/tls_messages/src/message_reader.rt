@@ -27,7 +27,7 @@ use std::marker::Model;
 ///
 /// ```
 /// while let Some(message) = messages.next(&mut content)? {
-///     handle(alloc, incoming, message, handed)?;
+///     handle_message(alloc, incoming, message, handed)?;
 /// }
 /// ```
 #[derive(Drop)]

@@ -117,7 +117,7 @@ impl Keys {
 
     /// Encrypts `message` under the next nonce, and returns the ciphertext followed by its tag. If `message` cannot
     /// grow by the tag, fails without consuming a nonce.
-    pub(super) fn next_seal(
+    pub(super) fn seal_under_next_nonce(
         &mut self,
         aad: Vec<u8>,
         message: Vec<u8>,
@@ -140,7 +140,7 @@ impl Keys {
     /// Opens `buffer` from byte `start` on under the next nonce, with the tag attached. Returns the buffer and, if it
     /// was opened, the length of the plaintext, which is at the front of the buffer.
     #[tactic(auto, using(crate::proofs::KeysLemmas::opened_within))]
-    pub(super) fn next_open(
+    pub(super) fn open_under_next_nonce(
         &mut self,
         aad: Vec<u8>,
         start: usize,

@@ -1,6 +1,6 @@
 //! Lines of input as commands.
 
-use super::words::{array, bytes, number};
+use super::words::{bytes, decimal_number, hex_array};
 use crate::aead::{AES_128_GCM, AES_256_GCM, Algorithm, quic};
 use std::alloc::{AllocError, Global};
 use std::str;
@@ -182,12 +182,12 @@ impl<'a> Words<'a> {
 
     /// Returns the next word as `N` bytes.
     fn array<const N: usize>(&mut self) -> Result<[u8; N], LineError> {
-        array(self.next()?).ok_or(LineError::BadLine)
+        hex_array(self.next()?).ok_or(LineError::BadLine)
     }
 
     /// Returns the next word as a number.
     fn number(&mut self) -> Result<u64, LineError> {
-        number(self.next()?).ok_or(LineError::BadLine)
+        decimal_number(self.next()?).ok_or(LineError::BadLine)
     }
 
     /// Returns the next word as the name of an algorithm.

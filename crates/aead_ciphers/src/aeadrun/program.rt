@@ -97,9 +97,13 @@ fn answer_next<W: Write>(
     next: Next,
 ) -> Result<(), Fault> {
     match next {
-        Next::Seal { aad, message } => bytes_answer(alloc, output, keys.next_seal(aad, message)),
+        Next::Seal { aad, message } => bytes_answer(
+            alloc,
+            output,
+            keys.seal_under_next_nonce(aad, message),
+        ),
         Next::Open { aad, start, buffer } => {
-            let (buffer, opened) = keys.next_open(aad, start, buffer);
+            let (buffer, opened) = keys.open_under_next_nonce(aad, start, buffer);
             open_answer(alloc, output, &buffer, opened)
         }
     }

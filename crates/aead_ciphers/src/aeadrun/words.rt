@@ -43,7 +43,7 @@ pub fn bytes(alloc: Global, word: &str) -> Result<Option<Vec<u8>>, AllocError>
 }
 
 /// Returns the `N` bytes that a word of `2 * N` hex digits represents, or `None` if the word is not of this form.
-pub(super) fn array<const N: usize>(word: &str) -> Option<[u8; N]>
+pub(super) fn hex_array<const N: usize>(word: &str) -> Option<[u8; N]>
     ensures { result ≡ result_ok (decode_sized word.now N) }
 {
     <[u8; N]>::from_hex(word).ok()
@@ -65,7 +65,7 @@ pub fn text(alloc: Global, bytes: &[u8]) -> Result<String, AllocError>
 }
 
 /// Returns the number that a word of decimal digits represents, or `None` if it represents none.
-pub(super) fn number(word: &str) -> Option<u64>
+pub(super) fn decimal_number(word: &str) -> Option<u64>
     ensures accepted { IsSome result ↔ IsNumberWord word.now }
     ensures value { IfSome result (λ n. n ≡ digits_value 10 word.now) }
 {

@@ -85,7 +85,12 @@ fn encrypt_zeros(buffer: &mut [u8])
 fn rfc_8439_a_1_vector_1(rt: HostRuntime) -> Result<(), Fail> {
     let mut block = [0; BLOCK_LEN];
     encrypt_zeros(&mut block);
-    same(&rt, &block, &block_of_zeros::<BLOCK_LEN>(rt.alloc())?, "the block");
+    same(
+        &rt,
+        &block,
+        &block_of_zeros::<BLOCK_LEN>(rt.alloc())?,
+        "the block",
+    );
     let wanted = block_of_zeros::<16>(rt.alloc())?;
     let mut front = [0; 16];
     encrypt_zeros(&mut front);

@@ -27,7 +27,7 @@ fn round_constant(n: usize) -> u8x16
 
 /// Moves each column to the next place. The first becomes zero.
 #[inline(always)]
-fn one_on(block: u8x16) -> u8x16
+fn shift_columns_by_one(block: u8x16) -> u8x16
     ensures { result ≡ state (λ r c. if c == 0 then 0 else at block r (c - 1)) }
 {
     look_up(
@@ -38,7 +38,7 @@ fn one_on(block: u8x16) -> u8x16
 
 /// Moves each column by two places. The first two become zero.
 #[inline(always)]
-fn two_on(block: u8x16) -> u8x16
+fn shift_columns_by_two(block: u8x16) -> u8x16
     ensures { result ≡ state (λ r c. if nat_lt c 2 then 0 else at block r (c - 2)) }
 {
     look_up(
@@ -71,7 +71,7 @@ fn rotated_column(block: u8x16) -> u8x16
 
 /// Returns SubWord of RotWord of the last column, with round constant `i` added, in each column.
 #[inline(always)]
-fn turned(last: u8x16, i: usize) -> u8x16
+fn sub_rot_last_word(last: u8x16, i: usize) -> u8x16
     requires { i < 10 }
     ensures { (c : ℕ) → c < 4 → column result c
         ≡ sub_word (rot_word (column last 3)) ⊕ (power_of_x i ∷ 0 ∷ 0 ∷ 0 ∷ []) }
@@ -81,7 +81,7 @@ fn turned(last: u8x16, i: usize) -> u8x16
 
 /// Returns SubWord of the last column in each column.
 #[inline(always)]
-fn middle(last: u8x16) -> u8x16
+fn sub_last_word(last: u8x16) -> u8x16
     ensures { (c : ℕ) → c < 4 → column result c ≡ sub_word (column last 3) }
 {
     sub_each(last_column(last))
@@ -98,9 +98,9 @@ fn transformed(last: u8x16, n: usize, m: usize) -> u8x16
     ensures middle { n % m ≢ 0 → (c : ℕ) → c < 4 → column result c ≡ sub_word (column last 3) }
 {
     if n % m == 0 {
-        turned(last, n / m - 1)
+        sub_rot_last_word(last, n / m - 1)
     } else {
-        middle(last)
+        sub_last_word(last)
     }
 }
 
@@ -111,8 +111,8 @@ fn next_round_key(back: u8x16, word: u8x16) -> u8x16
     ensures first { column result 0 ≡ column back 0 ⊕ column word 0 }
     ensures others { (c : ℕ) → c < 3 → column result (c + 1) ≡ column back (c + 1) ⊕ column result c }
 {
-    let two = back ^ one_on(back);
-    let four = two ^ two_on(two);
+    let two = back ^ shift_columns_by_one(back);
+    let four = two ^ shift_columns_by_two(two);
     four ^ word
 }
 

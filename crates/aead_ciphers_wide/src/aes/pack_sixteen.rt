@@ -23,7 +23,7 @@ pub fn pack_sixteen(words: [WiderWord; 8]) -> [WiderWord; 8]
 
 /// The blocks of the bytes of the two halves of a word.
 #[inline(always)]
-fn to_blocks(word: WiderWord) -> (Block, Block)
+fn blocks_of_halves(word: WiderWord) -> (Block, Block)
     ensures low { result.0 ≡ to_le_bytes w128 (half_of 0 word) }
     ensures high { result.1 ≡ to_le_bytes w128 (half_of 1 word) }
 {
@@ -37,14 +37,14 @@ pub fn unpack_sixteen(planes: [WiderWord; 8]) -> [Block; 16]
     ensures { (k : ℕ) → k < 16 → slice_index_or result k [] ≡ wider_block planes k }
 {
     let [w0, w1, w2, w3, w4, w5, w6, w7] = transpose_bits(planes);
-    let (b0, b1) = to_blocks(w0);
-    let (b2, b3) = to_blocks(w1);
-    let (b4, b5) = to_blocks(w2);
-    let (b6, b7) = to_blocks(w3);
-    let (b8, b9) = to_blocks(w4);
-    let (b10, b11) = to_blocks(w5);
-    let (b12, b13) = to_blocks(w6);
-    let (b14, b15) = to_blocks(w7);
+    let (b0, b1) = blocks_of_halves(w0);
+    let (b2, b3) = blocks_of_halves(w1);
+    let (b4, b5) = blocks_of_halves(w2);
+    let (b6, b7) = blocks_of_halves(w3);
+    let (b8, b9) = blocks_of_halves(w4);
+    let (b10, b11) = blocks_of_halves(w5);
+    let (b12, b13) = blocks_of_halves(w6);
+    let (b14, b15) = blocks_of_halves(w7);
     [
         b0, b1, b2, b3, b4, b5, b6, b7, b8, b9, b10, b11, b12, b13, b14, b15,
     ]

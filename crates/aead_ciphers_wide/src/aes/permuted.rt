@@ -87,7 +87,7 @@ fn shift_rows(block: u8x16) -> u8x16
 
 /// Moves the byte of each row up by one row, cyclically.
 #[inline(always)]
-fn one_below(block: u8x16) -> u8x16
+fn rows_up_by_one(block: u8x16) -> u8x16
     ensures { result ≡ state (λ r c. at block ((r + 1) % 4) c) }
 {
     block.swizzle([1, 2, 3, 0, 5, 6, 7, 4, 9, 10, 11, 8, 13, 14, 15, 12])
@@ -95,7 +95,7 @@ fn one_below(block: u8x16) -> u8x16
 
 /// Moves the byte of each row up by two rows, cyclically.
 #[inline(always)]
-fn two_below(block: u8x16) -> u8x16
+fn rows_up_by_two(block: u8x16) -> u8x16
     ensures { result ≡ state (λ r c. at block ((r + 2) % 4) c) }
 {
     block.swizzle([2, 3, 0, 1, 6, 7, 4, 5, 10, 11, 8, 9, 14, 15, 12, 13])
@@ -106,9 +106,9 @@ fn two_below(block: u8x16) -> u8x16
 fn mix_columns(block: u8x16) -> u8x16
     ensures { result ≡ mix_columns block }
 {
-    let below = one_below(block);
+    let below = rows_up_by_one(block);
     let sum = block ^ below;
-    times_x(sum) ^ below ^ two_below(sum)
+    times_x(sum) ^ below ^ rows_up_by_two(sum)
 }
 
 /// Adds a round key (FIPS 197 section 5.1.4).

@@ -47,7 +47,7 @@ pub(crate) fn product(table: &[u8; 512], block: u8x16) -> u8x16
 /// Returns the product of `first` and the block H whose products are in `table`, added to `second`, times H. That is the
 /// sum of `first` times H^2, whose products are in `squares`, and `second` times H: the two share the moves and the
 /// reduction.
-pub(crate) fn product_pair(
+pub(crate) fn ghash_pair(
     table: &[u8; 512],
     squares: &[u8; 512],
     first: u8x16,

@@ -70,7 +70,7 @@ impl Incoming {
 }
 
 /// Follows a KeyUpdate, and appends another message.
-fn handle(
+fn handle_message(
     alloc: Global,
     incoming: &mut Incoming,
     message: &[u8],
@@ -117,7 +117,7 @@ fn receive_messages(
     ensures is_of { IsOfSecret incoming.new.reader.secret incoming.new.reader.key }
 {
     while let Some(message) = messages.next(&mut content)? {
-        handle(alloc, incoming, message, handed)?;
+        handle_message(alloc, incoming, message, handed)?;
     }
     Ok(())
 }

@@ -9,5 +9,5 @@ pub returns-then-is_err-clause-accepted : goal.returns-then-is_err-clause-accept
 returns-then-is_err-clause-accepted c = λ room.
     refuses_exactly (secret c.args.key.now []) c.args.sealed.now
     (vec_capacity c.args.out.now < vec_len c.args.out.now + length (opened_file (secret c.args.key.now []) c.args.sealed.now))
-    c.append_file-opened.result (sym c.is_err.ensures.value ∙ c.if-is_err.true) (λ lacks. omega (arith, room, lacks))
-    c.append_file-opened.ensures.refused
+    c.append_opened_file-opened.result (sym c.is_err.ensures.value ∙ c.if-is_err.true) (λ lacks. omega (arith, room, lacks))
+    c.append_opened_file-opened.ensures.refused

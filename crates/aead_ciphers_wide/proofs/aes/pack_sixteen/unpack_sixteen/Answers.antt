@@ -16,30 +16,30 @@ returns c =
     let low = λ (w : ℕ). to_le_bytes w128 (half_of 0 w) in
     let high = λ (w : ℕ). to_le_bytes w128 (half_of 1 w) in
     let blocks =
-    c.to_blocks.result.0 ∷ c.to_blocks.result.1
-    ∷ c.to_blocks-2.result.0 ∷ c.to_blocks-2.result.1
-    ∷ c.to_blocks-3.result.0 ∷ c.to_blocks-3.result.1
-    ∷ c.to_blocks-4.result.0 ∷ c.to_blocks-4.result.1
-    ∷ c.to_blocks-5.result.0 ∷ c.to_blocks-5.result.1
-    ∷ c.to_blocks-6.result.0 ∷ c.to_blocks-6.result.1
-    ∷ c.to_blocks-7.result.0 ∷ c.to_blocks-7.result.1
-    ∷ c.to_blocks-8.result.0 ∷ c.to_blocks-8.result.1 ∷ [] in
+    c.blocks_of_halves.result.0 ∷ c.blocks_of_halves.result.1
+    ∷ c.blocks_of_halves-2.result.0 ∷ c.blocks_of_halves-2.result.1
+    ∷ c.blocks_of_halves-3.result.0 ∷ c.blocks_of_halves-3.result.1
+    ∷ c.blocks_of_halves-4.result.0 ∷ c.blocks_of_halves-4.result.1
+    ∷ c.blocks_of_halves-5.result.0 ∷ c.blocks_of_halves-5.result.1
+    ∷ c.blocks_of_halves-6.result.0 ∷ c.blocks_of_halves-6.result.1
+    ∷ c.blocks_of_halves-7.result.0 ∷ c.blocks_of_halves-7.result.1
+    ∷ c.blocks_of_halves-8.result.0 ∷ c.blocks_of_halves-8.result.1 ∷ [] in
     let held =
     by_sixteen (λ k. slice_index_or blocks k [] ≡ to_le_bytes w128 (half_of (k % 2) (slice_index words (k / 2))))
-    (c.to_blocks.ensures.low ∙ ap low (at 0 c.index-transpose_bits-0.result (lit< tt)))
-    (c.to_blocks.ensures.high ∙ ap high (at 0 c.index-transpose_bits-0.result (lit< tt)))
-    (c.to_blocks-2.ensures.low ∙ ap low (at 1 c.index-transpose_bits-1.result (lit< tt)))
-    (c.to_blocks-2.ensures.high ∙ ap high (at 1 c.index-transpose_bits-1.result (lit< tt)))
-    (c.to_blocks-3.ensures.low ∙ ap low (at 2 c.index-transpose_bits-2.result (lit< tt)))
-    (c.to_blocks-3.ensures.high ∙ ap high (at 2 c.index-transpose_bits-2.result (lit< tt)))
-    (c.to_blocks-4.ensures.low ∙ ap low (at 3 c.index-transpose_bits-3.result (lit< tt)))
-    (c.to_blocks-4.ensures.high ∙ ap high (at 3 c.index-transpose_bits-3.result (lit< tt)))
-    (c.to_blocks-5.ensures.low ∙ ap low (at 4 c.index-transpose_bits-4.result (lit< tt)))
-    (c.to_blocks-5.ensures.high ∙ ap high (at 4 c.index-transpose_bits-4.result (lit< tt)))
-    (c.to_blocks-6.ensures.low ∙ ap low (at 5 c.index-transpose_bits-5.result (lit< tt)))
-    (c.to_blocks-6.ensures.high ∙ ap high (at 5 c.index-transpose_bits-5.result (lit< tt)))
-    (c.to_blocks-7.ensures.low ∙ ap low (at 6 c.index-transpose_bits-6.result (lit< tt)))
-    (c.to_blocks-7.ensures.high ∙ ap high (at 6 c.index-transpose_bits-6.result (lit< tt)))
-    (c.to_blocks-8.ensures.low ∙ ap low (at 7 c.index-transpose_bits-7.result (lit< tt)))
-    (c.to_blocks-8.ensures.high ∙ ap high (at 7 c.index-transpose_bits-7.result (lit< tt))) in
+    (c.blocks_of_halves.ensures.low ∙ ap low (at 0 c.index-transpose_bits-0.result (lit< tt)))
+    (c.blocks_of_halves.ensures.high ∙ ap high (at 0 c.index-transpose_bits-0.result (lit< tt)))
+    (c.blocks_of_halves-2.ensures.low ∙ ap low (at 1 c.index-transpose_bits-1.result (lit< tt)))
+    (c.blocks_of_halves-2.ensures.high ∙ ap high (at 1 c.index-transpose_bits-1.result (lit< tt)))
+    (c.blocks_of_halves-3.ensures.low ∙ ap low (at 2 c.index-transpose_bits-2.result (lit< tt)))
+    (c.blocks_of_halves-3.ensures.high ∙ ap high (at 2 c.index-transpose_bits-2.result (lit< tt)))
+    (c.blocks_of_halves-4.ensures.low ∙ ap low (at 3 c.index-transpose_bits-3.result (lit< tt)))
+    (c.blocks_of_halves-4.ensures.high ∙ ap high (at 3 c.index-transpose_bits-3.result (lit< tt)))
+    (c.blocks_of_halves-5.ensures.low ∙ ap low (at 4 c.index-transpose_bits-4.result (lit< tt)))
+    (c.blocks_of_halves-5.ensures.high ∙ ap high (at 4 c.index-transpose_bits-4.result (lit< tt)))
+    (c.blocks_of_halves-6.ensures.low ∙ ap low (at 5 c.index-transpose_bits-5.result (lit< tt)))
+    (c.blocks_of_halves-6.ensures.high ∙ ap high (at 5 c.index-transpose_bits-5.result (lit< tt)))
+    (c.blocks_of_halves-7.ensures.low ∙ ap low (at 6 c.index-transpose_bits-6.result (lit< tt)))
+    (c.blocks_of_halves-7.ensures.high ∙ ap high (at 6 c.index-transpose_bits-6.result (lit< tt)))
+    (c.blocks_of_halves-8.ensures.low ∙ ap low (at 7 c.index-transpose_bits-7.result (lit< tt)))
+    (c.blocks_of_halves-8.ensures.high ∙ ap high (at 7 c.index-transpose_bits-7.result (lit< tt))) in
     λ k hk. held k hk ∙ unpacked_sixteen c.args.planes words (rw (map-id c.args.planes, map-id words) at c.transpose_bits.ensures) k hk

@@ -14,7 +14,7 @@ loop-pair-preserved c =
     let table = c.self.inside.products.now in
     let rest = c.loop-pair.rest.now in
     let pair = c.in-Some.pair.now in
-    let next = c.product_pair-sum.result in
+    let next = c.ghash_pair-sum.result in
     let second = take 16 (take 16 (drop 16 pair)) in
     let left : length c.in-Some.after.now + 32 ≡ length rest = c.in-Some.ensures.cases.2 in
     record {
@@ -24,7 +24,7 @@ loop-pair-preserved c =
           subst (λ xs. IsHashOfTaken h done c.args.input.items.now xs next) (sym c.in-Some.ensures.cases.1)
           (taken_two h c.loop-pair.sum c.args.input.items.now rest pair table next done c.self.view_is (omega arith)
           c.in-Some.ensures.cases.0
-          (c.product_pair-sum.ensures ∙ ap (λ x. (x • subkey table ⊕ second) • subkey table) c.add-first.ensures)
+          (c.ghash_pair-sum.ensures ∙ ap (λ x. (x • subkey table ⊕ second) • subkey table) c.add-first.ensures)
           (c.loop-pair.invariant.hashed done at));
     }
 

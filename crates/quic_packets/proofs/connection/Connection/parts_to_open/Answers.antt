@@ -4,8 +4,8 @@ use Rattle.quic_packets.specs.Datagram.{packet_of}
 use Rattle.quic_packets.proofs.StepLemmas as lemmas
 use Rattle.quic_packets.proofs.connection.Connection.parts_to_open.Goals as goal
 
-pub returns-then-not-is_own-clause-unopened : goal.returns-then-not-is_own-clause-unopened
-returns-then-not-is_own-clause-unopened c =
+pub returns-then-not-is_own_packet-clause-unopened : goal.returns-then-not-is_own_packet-clause-unopened
+returns-then-not-is_own_packet-clause-unopened c =
     let a = c.args in
     let it = c.in-Ok.ensures in
     let parsed : packet_of a.self.now.fixed_bit a.id_len a.datagram.now a.at ≡ Ok c.in-Ok.parts = rw (← c.self.view_is) (sym it.packet) in

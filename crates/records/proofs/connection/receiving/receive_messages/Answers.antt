@@ -22,7 +22,7 @@ loop-message-preserved c =
     (Some c.in-Some.message) _ (c.in_ok-message.was ∙ ap Ok c.in-Some.is) c.next.follows.holds-at-none in
     let found = rw c.in-Some.is at c.in_ok-message.ensures.found in
     let taken = rw c.in-Some.is at c.in_ok-message.ensures.taken in
-    let handled = c.in_ok-handle.ensures in
+    let handled = c.in_ok-handle_message.ensures in
     record {
       is_of = handled.is_of;
       reader_open = handled.open;
@@ -34,15 +34,15 @@ loop-message-preserved c =
           found.0 found.1 found.2 taken.0 taken.1 leaves.2 _ handled.handled;
     }
 
-pub returns-in_err-handle-clause-rejected : goal.returns-in_err-handle-clause-rejected
-returns-in_err-handle-clause-rejected c =
-    let p = err_from_is_err_and c.from_residual-in_err-handle.result c.from_residual-in_err-handle.ensures.1 in
+pub returns-in_err-handle_message-clause-rejected : goal.returns-in_err-handle_message-clause-rejected
+returns-in_err-handle_message-clause-rejected c =
+    let p = err_from_is_err_and c.from_residual-in_err-handle_message.result c.from_residual-in_err-handle_message.ensures.1 in
     let before = c.loop-message.invariant in
     let leaves = leaves_ok c.loop-message.messages c.next.follows.lender-at-none c.loop-message.content.now c.next.new.content.now
     (Some c.in-Some.message) _ (c.in_ok-message.was ∙ ap Ok c.in-Some.is) c.next.follows.holds-at-none in
     let found = rw c.in-Some.is at c.in_ok-message.ensures.found in
     let taken = rw c.in-Some.is at c.in_ok-message.ensures.taken in
-    let failed = c.in_err-handle.ensures in
+    let failed = c.in_err-handle_message.ensures in
     rw (p.1, p.2, failed.memory.0, failed.kept.0, failed.kept.1)
     (lacks_memory _ _ _ _ _ _ c.in-Some.message.now _ _ _ _ c.loop-message.messages before.stage before.bound before.handles
     found.0 found.1 found.2 taken.0 taken.1 leaves.2 failed.memory.1)

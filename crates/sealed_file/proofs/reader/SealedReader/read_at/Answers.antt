@@ -22,22 +22,22 @@ returns-then-eq-clause-count g c =
       short,
       c.len_of-len.ensures.value,
     ))
-    c.copy_from.ensures.count
+    c.read_slice_at.ensures.count
 
 pub returns-then-eq-clause-opened : goal.returns-then-eq-clause-opened
 returns-then-eq-clause-opened g c =
     let l = c.self.inside.layout in
     let place = c.in-Some.ensures in
     let short = c.len_of-len.ensures.short in
-    let n = c.copy_from.result in
-    subst (λ (r : ReaderState). IfSome r.file (λ file. take n c.copy_from.new.buf ≡ take n (drop c.args.offset (plaintext_under r.key file))))
+    let n = c.read_slice_at.result in
+    subst (λ (r : ReaderState). IfSome r.file (λ file. take n c.read_slice_at.new.buf ≡ take n (drop c.args.offset (plaintext_under r.key file))))
     c.self.view_is
     (copied_of _ _ l.last l.last_len c.in-Some.number c.in-Some.at c.args.offset _ (take c.len_of-len.result c.deref.result.now) _
     c.self.invariant.ends
     (rw (c.len_of-len.ensures.value, c.deref.ensures.value) (held_then c.self.inside.held c.in-Some.number _
     (sym c.eq.ensures ∙ c.if-eq.true) c.self.invariant.message)) place.number place.at place.in_range
-    (omega (arith, c.copy_from.ensures.count, length-take c.len_of-len.result c.deref.result.now, short))
-    c.copy_from.ensures.copied)
+    (omega (arith, c.read_slice_at.ensures.count, length-take c.len_of-len.result c.deref.result.now, short))
+    c.read_slice_at.ensures.copied)
 
 pub returns-in_err-open_chunk_of-clause-accepted :
     goal.returns-in_err-open_chunk_of-clause-accepted
@@ -62,7 +62,7 @@ returns-clause-count g c =
       short,
       c.len_of-len.ensures.value,
     ))
-    c.copy_from-count.ensures.count
+    c.read_slice_at-count.ensures.count
 
 pub returns-clause-accepted : goal.returns-clause-accepted
 returns-clause-accepted g c =
@@ -75,18 +75,18 @@ returns-clause-opened g c =
     let l = c.self.inside.layout in
     let place = c.in-Some.ensures in
     let short = c.len_of-len.ensures.short in
-    let n = c.copy_from-count.result in
+    let n = c.read_slice_at-count.result in
     let new = c.open_chunk_of.new.buffer in
     let own = c.self.inside.buffer in
     let items : take own.len (new ++ drop (length new) own.items) ≡ new =
     take_at new (drop (length new) own.items) own.len (omega (arith, own.ok.0, c.self.invariant.room, c.in_ok-open_chunk_of.ensures.len)) in
-    subst (λ (r : ReaderState). IfSome r.file (λ file. take n c.copy_from-count.new.buf ≡ take n (drop c.args.offset (plaintext_under r.key file))))
+    subst (λ (r : ReaderState). IfSome r.file (λ file. take n c.read_slice_at-count.new.buf ≡ take n (drop c.args.offset (plaintext_under r.key file))))
     c.self.view_is
     (copied_of _ _ l.last l.last_len c.in-Some.number c.in-Some.at c.args.offset _ (take c.len_of-len.result c.deref-2.result.now) _
     c.self.invariant.ends (rw (c.len_of-len.ensures.value, c.deref-2.ensures.value, items) c.in_ok-open_chunk_of.ensures.message)
     place.number place.at place.in_range
-    (omega (arith, c.copy_from-count.ensures.count, length-take c.len_of-len.result c.deref-2.result.now, short))
-    c.copy_from-count.ensures.copied)
+    (omega (arith, c.read_slice_at-count.ensures.count, length-take c.len_of-len.result c.deref-2.result.now, short))
+    c.read_slice_at-count.ensures.copied)
 
 pub returns-in_default-clause-count : goal.returns-in_default-clause-count
 returns-in_default-clause-count g c =

@@ -13,18 +13,18 @@ returns-in_err-open_chunk_of-clause-accepted g c =
     let p = err_from_is_err_and c.from_residual-in_err-open_chunk_of.result c.from_residual-in_err-open_chunk_of.ensures.1 in
     rw p.1 (both _ (λ known b h. unreadable known b (sealed_chunk_len ≤ vec_capacity c.args.buffer) h)
     (begun _ (secret c.args.key.now c.args.aad.now) c.in_ok-cipher.cipher c.in_ok-layout.layout.last c.in_ok-layout.layout.last_len
-    c.in_ok-cipher.ensures.accepted c.in_ok-cipher.ensures.key (rw c.begin.ensures.same at c.in_ok-layout.ensures.accepted)
-    (rw c.begin.ensures.same at c.in_ok-layout.ensures.ends))
-    (rw (c.in_ok-layout.ensures.start, c.layout_of.ensures.same, c.begin.ensures.same) at c.in_err-open_chunk_of.ensures.accepted))
+    c.in_ok-cipher.ensures.accepted c.in_ok-cipher.ensures.key (rw c.read_chunk_cipher.ensures.same at c.in_ok-layout.ensures.accepted)
+    (rw c.read_chunk_cipher.ensures.same at c.in_ok-layout.ensures.ends))
+    (rw (c.in_ok-layout.ensures.start, c.layout_of.ensures.same, c.read_chunk_cipher.ensures.same) at c.in_err-open_chunk_of.ensures.accepted))
 
 pub returns-in_err-open_chunk_of-clause-refused : goal.returns-in_err-open_chunk_of-clause-refused
 returns-in_err-open_chunk_of-clause-refused g c =
     let p = err_from_is_err_and c.from_residual-in_err-open_chunk_of.result c.from_residual-in_err-open_chunk_of.ensures.1 in
     rw (p.1, p.2) (both _ (λ known b h. last_fails known b _ _ h)
     (begun _ (secret c.args.key.now c.args.aad.now) c.in_ok-cipher.cipher c.in_ok-layout.layout.last c.in_ok-layout.layout.last_len
-    c.in_ok-cipher.ensures.accepted c.in_ok-cipher.ensures.key (rw c.begin.ensures.same at c.in_ok-layout.ensures.accepted)
-    (rw c.begin.ensures.same at c.in_ok-layout.ensures.ends))
-    (rw (c.in_ok-layout.ensures.start, c.layout_of.ensures.same, c.begin.ensures.same) at c.in_err-open_chunk_of.ensures.refused))
+    c.in_ok-cipher.ensures.accepted c.in_ok-cipher.ensures.key (rw c.read_chunk_cipher.ensures.same at c.in_ok-layout.ensures.accepted)
+    (rw c.read_chunk_cipher.ensures.same at c.in_ok-layout.ensures.ends))
+    (rw (c.in_ok-layout.ensures.start, c.layout_of.ensures.same, c.read_chunk_cipher.ensures.same) at c.in_err-open_chunk_of.ensures.refused))
 
 pub invariant_of-result : goal.invariant_of-result
 invariant_of-result g c =
@@ -49,21 +49,21 @@ pub returns-clause-readable : goal.returns-clause-readable
 returns-clause-readable g c =
     both _ (λ known b h. readable_if known b (true ≡ true) h)
     (begun _ (secret c.args.key.now c.args.aad.now) c.in_ok-cipher.cipher c.in_ok-layout.layout.last c.in_ok-layout.layout.last_len
-    c.in_ok-cipher.ensures.accepted c.in_ok-cipher.ensures.key (rw c.begin.ensures.same at c.in_ok-layout.ensures.accepted)
-    (rw c.begin.ensures.same at c.in_ok-layout.ensures.ends))
-    (rw (c.in_ok-layout.ensures.start, c.layout_of.ensures.same, c.begin.ensures.same) at c.in_ok-open_chunk_of.ensures.accepted)
+    c.in_ok-cipher.ensures.accepted c.in_ok-cipher.ensures.key (rw c.read_chunk_cipher.ensures.same at c.in_ok-layout.ensures.accepted)
+    (rw c.read_chunk_cipher.ensures.same at c.in_ok-layout.ensures.ends))
+    (rw (c.in_ok-layout.ensures.start, c.layout_of.ensures.same, c.read_chunk_cipher.ensures.same) at c.in_ok-open_chunk_of.ensures.accepted)
 
 pub returns-clause-accepted : goal.returns-clause-accepted
 returns-clause-accepted g c =
     both _ (λ known b h. exactly_if known b (sealed_chunk_len ≤ vec_capacity c.args.buffer) h)
     (begun _ (secret c.args.key.now c.args.aad.now) c.in_ok-cipher.cipher c.in_ok-layout.layout.last c.in_ok-layout.layout.last_len
-    c.in_ok-cipher.ensures.accepted c.in_ok-cipher.ensures.key (rw c.begin.ensures.same at c.in_ok-layout.ensures.accepted)
-    (rw c.begin.ensures.same at c.in_ok-layout.ensures.ends))
-    (rw (c.in_ok-layout.ensures.start, c.layout_of.ensures.same, c.begin.ensures.same) at c.in_ok-open_chunk_of.ensures.accepted)
+    c.in_ok-cipher.ensures.accepted c.in_ok-cipher.ensures.key (rw c.read_chunk_cipher.ensures.same at c.in_ok-layout.ensures.accepted)
+    (rw c.read_chunk_cipher.ensures.same at c.in_ok-layout.ensures.ends))
+    (rw (c.in_ok-layout.ensures.start, c.layout_of.ensures.same, c.read_chunk_cipher.ensures.same) at c.in_ok-open_chunk_of.ensures.accepted)
 
 pub returns-clause-len : goal.returns-clause-len
 returns-clause-len g c =
     IfSome_then _ (begun _ (secret c.args.key.now c.args.aad.now) c.in_ok-cipher.cipher c.in_ok-layout.layout.last c.in_ok-layout.layout.last_len
-    c.in_ok-cipher.ensures.accepted c.in_ok-cipher.ensures.key (rw c.begin.ensures.same at c.in_ok-layout.ensures.accepted)
-    (rw c.begin.ensures.same at c.in_ok-layout.ensures.ends))
+    c.in_ok-cipher.ensures.accepted c.in_ok-cipher.ensures.key (rw c.read_chunk_cipher.ensures.same at c.in_ok-layout.ensures.accepted)
+    (rw c.read_chunk_cipher.ensures.same at c.in_ok-layout.ensures.ends))
     (λ known b. length_begun known b _ refl)

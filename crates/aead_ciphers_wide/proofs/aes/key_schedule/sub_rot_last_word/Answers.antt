@@ -2,7 +2,7 @@ use Rattle.aead_ciphers_base.specs.Aes.{power_of_x}
 use Rattle.aead_ciphers_base.specs.Bytes.{◌⊕◌}
 use Rattle.std.proofs.Common.{ap}
 use Rattle.aead_ciphers_wide.proofs.ScheduleColumns.{turned_is}
-use Rattle.aead_ciphers_wide.proofs.aes.key_schedule.turned.Goals as goal
+use Rattle.aead_ciphers_wide.proofs.aes.key_schedule.sub_rot_last_word.Goals as goal
 
 pub returns : goal.returns
 returns c = λ k h.

@@ -7,19 +7,19 @@ use Rattle.sealed_file.proofs
 use proofs.InMemoryLemmas.{chunk_fails, front_kept, front_same, front_through, header_wrong, lacks_grown, open_fits, room_for, room_grown}
 use proofs.OpenLemmas.{chunk_refused, open_accepted, open_end, open_long, open_next, open_start, untagged}
 use proofs.PieceLemmas.{length-piece-le}
-use proofs.in_memory.append_file.Goals as goal
+use proofs.in_memory.append_opened_file.Goals as goal
 
 pub returns-in_err-reserve-clause-refused : goal.returns-in_err-reserve-clause-refused
 returns-in_err-reserve-clause-refused c =
     let p = err_from_is_err_and c.from_residual-in_err-reserve.result c.from_residual-in_err-reserve.ensures.1 in
-    rw (p.1, p.2) (lacks_grown _ _ (c.opened_len.ensures (secret c.args.key.now [])) c.in_err-reserve.ensures.full)
+    rw (p.1, p.2) (lacks_grown _ _ (c.opened_file_len.ensures (secret c.args.key.now [])) c.in_err-reserve.ensures.full)
 
 pub loop-number-init : goal.loop-number-init
 loop-number-init c = record {
   at = open_start (secret c.args.key.now []) _ c.args.sealed.now (Some c.args.out.now.items) (Some c.reserve.new.self.items)
       c.in_ok-reserve.ensures.items (c.in_ok-cipher.ensures.accepted.0 refl) c.in_ok-cipher.ensures.cipher;
   room =
-      room_grown (c.opened_len.ensures (secret c.args.key.now [])) c.in_ok-reserve.ensures.len c.in_ok-reserve.ensures.ok (le_refl _);
+      room_grown (c.opened_file_len.ensures (secret c.args.key.now [])) c.in_ok-reserve.ensures.len c.in_ok-reserve.ensures.ok (le_refl _);
 }
 
 pub append_opened-requires-clause-chunk : goal.append_opened-requires-clause-chunk

@@ -3,7 +3,7 @@ use Rattle.aead_ciphers_base.specs.Bytes.{◌⊕◌}
 use Rattle.aead_ciphers_wide.specs.Products.{first_byte, subkey}
 use Rattle.aead_ciphers_wide.proofs.ByteLadder.{ladder}
 use Rattle.aead_ciphers_wide.proofs.ByteRows.{IsBlock-vector, looked_value, moved_zeros, pair_end, pair_value, row_sums, small_digits, start_value, sum_value, turn, zero_at}
-use Rattle.aead_ciphers_wide.proofs.gcm.product.product_pair.Goals as goal
+use Rattle.aead_ciphers_wide.proofs.gcm.product.ghash_pair.Goals as goal
 
 pub looked_up-one-requires-clause-high : goal.looked_up-one-requires-clause-high
 looked_up-one-requires-clause-high c =

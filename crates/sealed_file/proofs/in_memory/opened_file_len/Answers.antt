@@ -2,7 +2,7 @@ use Rattle.std.proofs.Common.{length, arith, ap}
 use Rattle.sealed_file.specs.Opening.{key_of}
 use Rattle.sealed_file.proofs
 use proofs.InMemoryLemmas.{length-plaintext}
-use proofs.in_memory.opened_len.Goals as goal
+use proofs.in_memory.opened_file_len.Goals as goal
 
 pub returns : goal.returns
 returns c = λ s.

@@ -1,7 +1,7 @@
 use Rattle.std.proofs.Common.{◌≡◌, ◌≤◌, ◌+◌, ◌-◌, ℕ, slice_index}
 use Rattle.aead_ciphers_wide.proofs.ByteLadder.{ladder}
 use Rattle.aead_ciphers_wide.proofs.ByteRows.{pair_value, row_sums}
-use Rattle.aead_ciphers_wide.proofs.gcm.product.product_pair.Given as goal
+use Rattle.aead_ciphers_wide.proofs.gcm.product.ghash_pair.Given as goal
 
 abbrev pub invariant-loop-k : goal.invariant-loop-k
 invariant-loop-k l = record {

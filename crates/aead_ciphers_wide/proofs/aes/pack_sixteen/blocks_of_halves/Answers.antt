@@ -1,7 +1,7 @@
 use Rattle.std.proofs.Common.{◌≡◌, ◌∙◌, ap, arith, sym}
 use Rattle.std.specs.Int.{to_le_bytes, w128}
 use Rattle.aead_ciphers_wide.specs.Word.{half_of}
-use Rattle.aead_ciphers_wide.proofs.aes.pack_sixteen.to_blocks.Goals as goal
+use Rattle.aead_ciphers_wide.proofs.aes.pack_sixteen.blocks_of_halves.Goals as goal
 
 pub returns-clause-low : goal.returns-clause-low
 returns-clause-low c =

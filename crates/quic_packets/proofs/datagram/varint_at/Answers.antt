@@ -1,6 +1,6 @@
 use Rattle.std.proofs.Common.{◌+◌, ◌-◌, ◌*◌, ◌/◌, ◌%◌, ◌^◌, get_or, drop, ap, arith, length-take}
 use Rattle.quic_packets.proofs.DatagramLemmas.{few_bytes, masked, varint_read}
-use Rattle.quic_packets.proofs.datagram.varint.Goals as goal
+use Rattle.quic_packets.proofs.datagram.varint_at.Goals as goal
 
 pub network_number-requires : goal.network_number-requires
 network_number-requires c =

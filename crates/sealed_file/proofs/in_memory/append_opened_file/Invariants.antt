@@ -4,7 +4,7 @@ use Rattle.sealed_file.specs.Opening.{opened_file}
 use Rattle.sealed_file.specs.Format.{secret}
 use Rattle.sealed_file.proofs
 use proofs.OpenLemmas.{Opening}
-use proofs.in_memory.append_file.Given as goal
+use proofs.in_memory.append_opened_file.Given as goal
 
 abbrev pub invariant-loop-number : goal.invariant-loop-number
 invariant-loop-number l = record {

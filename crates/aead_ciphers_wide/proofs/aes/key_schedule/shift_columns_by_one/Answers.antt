@@ -1,7 +1,7 @@
 use Rattle.std.proofs.Common.{[], ◌∷◌, refl}
 use Rattle.aead_ciphers_wide.proofs.PermutedBytes.{places_of}
 use Rattle.aead_ciphers_wide.proofs.ScheduleColumns.{one_on_is}
-use Rattle.aead_ciphers_wide.proofs.aes.key_schedule.one_on.Goals as goal
+use Rattle.aead_ciphers_wide.proofs.aes.key_schedule.shift_columns_by_one.Goals as goal
 
 pub look_up-requires : goal.look_up-requires
 look_up-requires c = places_of (128 ∷ 128 ∷ 128 ∷ 128 ∷ 0 ∷ 1 ∷ 2 ∷ 3 ∷ 4 ∷ 5 ∷ 6 ∷ 7 ∷ 8 ∷ 9 ∷ 10 ∷ 11 ∷ []) refl

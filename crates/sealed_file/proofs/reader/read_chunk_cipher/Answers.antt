@@ -4,7 +4,7 @@ use Rattle.sealed_file.specs.Opening.{HasHeader, chunk_key}
 use Rattle.sealed_file.specs.Refusals.{HeaderRefuses}
 use Rattle.sealed_file.proofs
 use proofs.ReaderLemmas.{of_header}
-use proofs.reader.begin.Goals as goal
+use proofs.reader.read_chunk_cipher.Goals as goal
 
 pub returns-clause-accepted : goal.returns-clause-accepted
 returns-clause-accepted g c =
