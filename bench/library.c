@@ -2,7 +2,7 @@
 #include "bench.h"
 
 loop bench_seal, bench_open, bench_authenticate, bench_ctr32, bench_encrypt_four, bench_update_block, bench_update_blocks,
-    bench_chacha, bench_mask, bench_chacha_mask, bench_aes_key, bench_less_safe_key, bench_clone, bench_send,
+    bench_chacha, bench_mask, bench_chacha_mask, bench_aes_key, bench_make_key, bench_clone, bench_send,
     bench_send_and_receive;
 
 const side library = {{
@@ -17,7 +17,7 @@ const side library = {{
     [MASK] = bench_mask,
     [CHACHA_MASK] = bench_chacha_mask,
     [AES_KEY] = bench_aes_key,
-    [GCM_KEY] = bench_less_safe_key,
+    [GCM_KEY] = bench_make_key,
     [CLONE] = bench_clone,
     [SEND] = bench_send,
     [SEND_AND_RECEIVE] = bench_send_and_receive,

@@ -269,7 +269,7 @@ Ldeerlapse_loh3:
 Ldeerlapse_BB2_2:                                 ; %else.2.i
 	add	x0, sp, #560
 	bl	_memcpy
-Ldeerlapse_BB2_3:                                 ; %"key_derivation::hmac::block_of::<#7cab53feae2e1c66>.exit"
+Ldeerlapse_BB2_3:                                 ; %"key_derivation::hmac::key_block::<#7cab53feae2e1c66>.exit"
 	ldp	q0, q1, [sp, #624]
 	add	x0, sp, #112
 	add	x1, sp, #224
@@ -1637,7 +1637,7 @@ Ldeerlapse_loh19:
 Ldeerlapse_BB8_2:                                 ; %else.2.i
 	add	x0, sp, #960
 	bl	_memcpy
-Ldeerlapse_BB8_3:                                 ; %"key_derivation::hmac::block_of::<#01e4f4eb65b1d8bb>.exit"
+Ldeerlapse_BB8_3:                                 ; %"key_derivation::hmac::key_block::<#01e4f4eb65b1d8bb>.exit"
 	ldr	q0, [sp, #1024]
 	ldr	q1, [sp, #1040]
 	add	x0, sp, #208
@@ -3635,8 +3635,8 @@ Ldeerlapse_BB15_3:                                ; %after.1
 	ret
 	.loh AdrpLdr	Ldeerlapse_loh40, Ldeerlapse_loh41
                                         ; -- End function
-	.p2align	2                               ; -- Begin function key_derivation::quic::initial
-"_key_derivation::quic::initial":       ; @"key_derivation::quic::initial"
+	.p2align	2                               ; -- Begin function key_derivation::quic::initial_secret
+"_key_derivation::quic::initial_secret": ; @"key_derivation::quic::initial_secret"
 ; %bb.0:                                ; %start
 	sub	sp, sp, #480
 	stp	x22, x21, [sp, #432]            ; 16-byte Folded Spill
@@ -10582,7 +10582,7 @@ Ldeerlapse_loh129:
 	mov	w1, w23
 	mov	x3, x22
 	add	x26, sp, #144
-	bl	"_key_derivation::quic::initial"
+	bl	"_key_derivation::quic::initial_secret"
 	ldur	q0, [x26, #3]
 	ldur	q1, [x26, #19]
 Ldeerlapse_loh130:
@@ -10598,7 +10598,7 @@ Ldeerlapse_loh131:
 	mov	x3, x22
 	stp	q0, q1, [sp, #48]
 	str	q2, [sp, #80]
-	bl	"_key_derivation::quic::initial"
+	bl	"_key_derivation::quic::initial_secret"
 	ldrb	w8, [sp, #144]
 	ldur	q0, [x26, #3]
 	ldur	q1, [x26, #19]

@@ -262,7 +262,7 @@
 	movq	%r15, %rsi
 	movq	%r14, %rdx
 	callq	memcpy@PLT
-.Ldeerlapse_BB2_3:                                # %"key_derivation::hmac::block_of::<#7cab53feae2e1c66>.exit"
+.Ldeerlapse_BB2_3:                                # %"key_derivation::hmac::key_block::<#7cab53feae2e1c66>.exit"
 	leaq	352(%rsp), %r14
 	movq	%rsp, %rsi
 	movl	$128, %edx
@@ -2227,7 +2227,7 @@
 	movq	%r15, %rsi
 	movq	%r14, %rdx
 	callq	memcpy@PLT
-.Ldeerlapse_BB8_3:                                # %"key_derivation::hmac::block_of::<#01e4f4eb65b1d8bb>.exit"
+.Ldeerlapse_BB8_3:                                # %"key_derivation::hmac::key_block::<#01e4f4eb65b1d8bb>.exit"
 	leaq	128(%rsp), %r14
 	movq	%rsp, %rsi
 	movl	$128, %edx
@@ -4657,7 +4657,7 @@
 	.size	"aead_ciphers_wide::aes::block_key::BlockKeyRef::encrypt_one", .Ldeerlapse_func_end15-"aead_ciphers_wide::aes::block_key::BlockKeyRef::encrypt_one"
                                         # -- End function
 	.section	.rodata.cst16,"aM",@progbits,16
-	.p2align	4, 0x0                          # -- Begin function key_derivation::quic::initial
+	.p2align	4, 0x0                          # -- Begin function key_derivation::quic::initial_secret
 .Ldeerlapse_CPI16_0:
 	.byte	56                              # 0x38
 	.byte	118                             # 0x76
@@ -4744,8 +4744,8 @@
 	.byte	0                               # 0x0
 	.byte	0                               # 0x0
 	.section	.text.deerlapse_key_derivation,"ax",@progbits
-	.type	"key_derivation::quic::initial",@function
-"key_derivation::quic::initial":        # @"key_derivation::quic::initial"
+	.type	"key_derivation::quic::initial_secret",@function
+"key_derivation::quic::initial_secret": # @"key_derivation::quic::initial_secret"
 # %bb.0:                                # %start
 	pushq	%rbp
 	pushq	%r15
@@ -4835,7 +4835,7 @@
 	popq	%rbp
 	retq
 .Ldeerlapse_func_end16:
-	.size	"key_derivation::quic::initial", .Ldeerlapse_func_end16-"key_derivation::quic::initial"
+	.size	"key_derivation::quic::initial_secret", .Ldeerlapse_func_end16-"key_derivation::quic::initial_secret"
                                         # -- End function
 	.section	.text.deerlapse_key_derivation,"ax",@progbits
 	.type	"key_derivation::hkdf::Expander::fill_labeled::<#7cab53feae2e1c66>",@function # -- Begin function key_derivation::hkdf::Expander::fill_labeled::<#7cab53feae2e1c66>
@@ -12910,7 +12910,7 @@ deerlapse_quic_initial_secrets:         # @deerlapse_quic_initial_secrets
 	movl	%ebp, %esi
 	movq	%r12, %rdx
 	movq	%r15, %rcx
-	callq	"key_derivation::quic::initial"
+	callq	"key_derivation::quic::initial_secret"
 	movb	(%r13), %r14b
 	movb	2(%r13), %bl
 	movups	3(%r13), %xmm0
@@ -12925,7 +12925,7 @@ deerlapse_quic_initial_secrets:         # @deerlapse_quic_initial_secrets
 	movl	%ebp, %esi
 	movq	%r12, %rdx
 	movq	%r15, %rcx
-	callq	"key_derivation::quic::initial"
+	callq	"key_derivation::quic::initial_secret"
 	movb	(%r13), %al
 	movb	2(%r13), %bpl
 	movups	3(%r13), %xmm0

@@ -217,7 +217,7 @@
 	movq	%rsp, %rdi
 	vzeroupper
 	callq	memcpy@PLT
-.Ldeerlapse_BB2_3:                                # %"key_derivation::hmac::block_of::<#7cab53feae2e1c66>.exit"
+.Ldeerlapse_BB2_3:                                # %"key_derivation::hmac::key_block::<#7cab53feae2e1c66>.exit"
 	vmovups	(%rsp), %ymm0
 	vmovups	32(%rsp), %ymm1
 	vmovups	64(%rsp), %ymm2
@@ -2055,7 +2055,7 @@
 	movq	%r14, %rdx
 	vzeroupper
 	callq	memcpy@PLT
-.Ldeerlapse_BB8_3:                                # %"key_derivation::hmac::block_of::<#01e4f4eb65b1d8bb>.exit"
+.Ldeerlapse_BB8_3:                                # %"key_derivation::hmac::key_block::<#01e4f4eb65b1d8bb>.exit"
 	vmovups	(%rsp), %ymm0
 	vmovups	32(%rsp), %ymm1
 	vmovups	64(%rsp), %ymm2
@@ -4488,7 +4488,7 @@
 	.size	"aead_ciphers_wide::aes::block_key::BlockKeyRef::encrypt_one", .Ldeerlapse_func_end15-"aead_ciphers_wide::aes::block_key::BlockKeyRef::encrypt_one"
                                         # -- End function
 	.section	.rodata.cst16,"aM",@progbits,16
-	.p2align	4, 0x0                          # -- Begin function key_derivation::quic::initial
+	.p2align	4, 0x0                          # -- Begin function key_derivation::quic::initial_secret
 .Ldeerlapse_CPI16_0:
 	.byte	56                              # 0x38
 	.byte	118                             # 0x76
@@ -4575,8 +4575,8 @@
 	.byte	0                               # 0x0
 	.byte	0                               # 0x0
 	.section	.text.deerlapse_key_derivation,"ax",@progbits
-	.type	"key_derivation::quic::initial",@function
-"key_derivation::quic::initial":        # @"key_derivation::quic::initial"
+	.type	"key_derivation::quic::initial_secret",@function
+"key_derivation::quic::initial_secret": # @"key_derivation::quic::initial_secret"
 # %bb.0:                                # %start
 	pushq	%rbp
 	pushq	%r15
@@ -4664,7 +4664,7 @@
 	vzeroupper
 	retq
 .Ldeerlapse_func_end16:
-	.size	"key_derivation::quic::initial", .Ldeerlapse_func_end16-"key_derivation::quic::initial"
+	.size	"key_derivation::quic::initial_secret", .Ldeerlapse_func_end16-"key_derivation::quic::initial_secret"
                                         # -- End function
 	.section	.text.deerlapse_key_derivation,"ax",@progbits
 	.type	"key_derivation::hkdf::Expander::fill_labeled::<#7cab53feae2e1c66>",@function # -- Begin function key_derivation::hkdf::Expander::fill_labeled::<#7cab53feae2e1c66>
@@ -11281,7 +11281,7 @@ deerlapse_quic_initial_secrets:         # @deerlapse_quic_initial_secrets
 	movl	%ebp, %esi
 	movq	%r12, %rdx
 	movq	%r15, %rcx
-	callq	"key_derivation::quic::initial"
+	callq	"key_derivation::quic::initial_secret"
 	movb	(%r13), %r14b
 	vmovups	3(%r13), %ymm0
 	vmovups	%ymm0, 64(%rsp)
@@ -11295,7 +11295,7 @@ deerlapse_quic_initial_secrets:         # @deerlapse_quic_initial_secrets
 	movq	%r12, %rdx
 	movq	%r15, %rcx
 	vzeroupper
-	callq	"key_derivation::quic::initial"
+	callq	"key_derivation::quic::initial_secret"
 	movb	(%r13), %al
 	movb	2(%r13), %bpl
 	vmovups	3(%r13), %ymm0

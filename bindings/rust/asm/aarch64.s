@@ -220,7 +220,7 @@
 	mov	x1, x21
 	mov	x2, x20
 	bl	memcpy
-.Ldeerlapse_0_1_0_BB2_3:                                // %"key_derivation::hmac::block_of::<#7cab53feae2e1c66>.exit"
+.Ldeerlapse_0_1_0_BB2_3:                                // %"key_derivation::hmac::key_block::<#7cab53feae2e1c66>.exit"
 	add	x0, sp, #224
 	add	x1, sp, #560
 	mov	w2, #128                        // =0x80
@@ -1542,7 +1542,7 @@
 	mov	x1, x21
 	mov	x2, x20
 	bl	memcpy
-.Ldeerlapse_0_1_0_BB8_3:                                // %"key_derivation::hmac::block_of::<#01e4f4eb65b1d8bb>.exit"
+.Ldeerlapse_0_1_0_BB8_3:                                // %"key_derivation::hmac::key_block::<#01e4f4eb65b1d8bb>.exit"
 	add	x0, sp, #416
 	add	x1, sp, #960
 	mov	w2, #128                        // =0x80
@@ -3416,9 +3416,9 @@
 	.size	"deerlapse_0_1_0::aead_ciphers_wide::aes::block_key::BlockKeyRef::encrypt_one", .Ldeerlapse_0_1_0_func_end15-"deerlapse_0_1_0::aead_ciphers_wide::aes::block_key::BlockKeyRef::encrypt_one"
                                         // -- End function
 	.section	.text.deerlapse_key_derivation,"ax",@progbits
-	.p2align	2                               // -- Begin function key_derivation::quic::initial
-	.type	"deerlapse_0_1_0::key_derivation::quic::initial",@function
-"deerlapse_0_1_0::key_derivation::quic::initial":        // @"deerlapse_0_1_0::key_derivation::quic::initial"
+	.p2align	2                               // -- Begin function key_derivation::quic::initial_secret
+	.type	"deerlapse_0_1_0::key_derivation::quic::initial_secret",@function
+"deerlapse_0_1_0::key_derivation::quic::initial_secret": // @"deerlapse_0_1_0::key_derivation::quic::initial_secret"
 // %bb.0:                               // %start
 	sub	sp, sp, #480
 	stp	x28, x21, [sp, #448]            // 16-byte Folded Spill
@@ -3559,7 +3559,7 @@
 	add	sp, sp, #480
 	ret
 .Ldeerlapse_0_1_0_func_end16:
-	.size	"deerlapse_0_1_0::key_derivation::quic::initial", .Ldeerlapse_0_1_0_func_end16-"deerlapse_0_1_0::key_derivation::quic::initial"
+	.size	"deerlapse_0_1_0::key_derivation::quic::initial_secret", .Ldeerlapse_0_1_0_func_end16-"deerlapse_0_1_0::key_derivation::quic::initial_secret"
                                         // -- End function
 	.section	.text.deerlapse_key_derivation,"ax",@progbits
 	.p2align	2                               // -- Begin function key_derivation::hkdf::Expander::fill_labeled::<#7cab53feae2e1c66>
@@ -10223,7 +10223,7 @@ deerlapse_0_1_0_quic_initial_secrets:         // @deerlapse_0_1_0_quic_initial_s
 	mov	w1, w23
 	mov	x3, x22
 	sub	x26, x29, #64
-	bl	"deerlapse_0_1_0::key_derivation::quic::initial"
+	bl	"deerlapse_0_1_0::key_derivation::quic::initial_secret"
 	ldur	q0, [x26, #3]
 	ldur	q1, [x26, #19]
 	adrp	x4, .Ldeerlapse_0_1_0_static.8
@@ -10237,7 +10237,7 @@ deerlapse_0_1_0_quic_initial_secrets:         // @deerlapse_0_1_0_quic_initial_s
 	mov	x3, x22
 	stp	q0, q1, [sp, #48]
 	str	q2, [sp, #80]
-	bl	"deerlapse_0_1_0::key_derivation::quic::initial"
+	bl	"deerlapse_0_1_0::key_derivation::quic::initial_secret"
 	ldurb	w8, [x29, #-64]
 	ldur	q0, [x26, #3]
 	ldur	q1, [x26, #19]

@@ -276,7 +276,7 @@ Ldeerlapse_0_1_0_CPI2_1:
 Ldeerlapse_0_1_0_BB2_2:                                 ## %else.2.i
 	movq	%rsp, %rdi
 	callq	_memcpy
-Ldeerlapse_0_1_0_BB2_3:                                 ## %"key_derivation::hmac::block_of::<#7cab53feae2e1c66>.exit"
+Ldeerlapse_0_1_0_BB2_3:                                 ## %"key_derivation::hmac::key_block::<#7cab53feae2e1c66>.exit"
 	movaps	112(%rsp), %xmm0
 	leaq	352(%rsp), %r15
 	movaps	%xmm0, 112(%r15)
@@ -2312,7 +2312,7 @@ Ldeerlapse_0_1_0_BB8_2:                                 ## %else.2.i
 	movq	%r15, %rsi
 	movq	%r14, %rdx
 	callq	_memcpy
-Ldeerlapse_0_1_0_BB8_3:                                 ## %"key_derivation::hmac::block_of::<#01e4f4eb65b1d8bb>.exit"
+Ldeerlapse_0_1_0_BB8_3:                                 ## %"key_derivation::hmac::key_block::<#01e4f4eb65b1d8bb>.exit"
 	movaps	112(%rsp), %xmm0
 	leaq	128(%rsp), %r14
 	movaps	%xmm0, 112(%r14)
@@ -4749,7 +4749,7 @@ Ldeerlapse_0_1_0_BB15_3:                                ## %after.1
 	retq
                                         ## -- End function
 	.section	__TEXT,__literal16,16byte_literals
-	.p2align	4, 0x0                          ## -- Begin function key_derivation::quic::initial
+	.p2align	4, 0x0                          ## -- Begin function key_derivation::quic::initial_secret
 Ldeerlapse_0_1_0_CPI16_0:
 	.byte	56                              ## 0x38
 	.byte	118                             ## 0x76
@@ -4836,7 +4836,7 @@ Ldeerlapse_0_1_0_CPI16_4:
 	.byte	0                               ## 0x0
 	.byte	0                               ## 0x0
 	.section	__TEXT,__text,regular,pure_instructions
-"_deerlapse_0_1_0::key_derivation::quic::initial":       ## @"key_derivation::quic::initial"
+"_deerlapse_0_1_0::key_derivation::quic::initial_secret": ## @"key_derivation::quic::initial_secret"
 ## %bb.0:                               ## %start
 	pushq	%rbp
 	pushq	%r15
@@ -12957,7 +12957,7 @@ Ldeerlapse_0_1_0_BB46_3:                                ## %arm.1.i
 	movl	%ebp, %esi
 	movq	%r12, %rdx
 	movq	%r15, %rcx
-	callq	"_deerlapse_0_1_0::key_derivation::quic::initial"
+	callq	"_deerlapse_0_1_0::key_derivation::quic::initial_secret"
 	movb	(%r13), %r14b
 	movb	2(%r13), %bl
 	movups	3(%r13), %xmm0
@@ -12972,7 +12972,7 @@ Ldeerlapse_0_1_0_BB46_3:                                ## %arm.1.i
 	movl	%ebp, %esi
 	movq	%r12, %rdx
 	movq	%r15, %rcx
-	callq	"_deerlapse_0_1_0::key_derivation::quic::initial"
+	callq	"_deerlapse_0_1_0::key_derivation::quic::initial_secret"
 	movb	(%r13), %al
 	movb	2(%r13), %bpl
 	movups	3(%r13), %xmm0

@@ -271,7 +271,7 @@
 	movq	%rdi, %rdx
 	movq	%rsi, %r8
 	callq	memcpy
-.Ldeerlapse_0_1_0_BB2_3:                                # %"key_derivation::hmac::block_of::<#7cab53feae2e1c66>.exit"
+.Ldeerlapse_0_1_0_BB2_3:                                # %"key_derivation::hmac::key_block::<#7cab53feae2e1c66>.exit"
 	leaq	384(%rsp), %rsi
 	leaq	32(%rsp), %rdx
 	movl	$128, %r8d
@@ -2235,7 +2235,7 @@
 	movq	%rbx, %rdx
 	movq	%rdi, %r8
 	callq	memcpy
-.Ldeerlapse_0_1_0_BB8_3:                                # %"key_derivation::hmac::block_of::<#01e4f4eb65b1d8bb>.exit"
+.Ldeerlapse_0_1_0_BB8_3:                                # %"key_derivation::hmac::key_block::<#01e4f4eb65b1d8bb>.exit"
 	leaq	160(%rsp), %rdi
 	leaq	32(%rsp), %rdx
 	movl	$128, %r8d
@@ -4698,12 +4698,12 @@
 	movdqu	%xmm0, (%rcx)
 	retq
                                         # -- End function
-	.def	"deerlapse_0_1_0::key_derivation::quic::initial";
+	.def	"deerlapse_0_1_0::key_derivation::quic::initial_secret";
 	.scl	3;
 	.type	32;
 	.endef
 	.section	.rdata,"dr"
-	.p2align	4, 0x0                          # -- Begin function key_derivation::quic::initial
+	.p2align	4, 0x0                          # -- Begin function key_derivation::quic::initial_secret
 .Ldeerlapse_0_1_0_CPI16_0:
 	.byte	56                              # 0x38
 	.byte	118                             # 0x76
@@ -4790,7 +4790,7 @@
 	.byte	0                               # 0x0
 	.byte	0                               # 0x0
 	.text
-"deerlapse_0_1_0::key_derivation::quic::initial":        # @"deerlapse_0_1_0::key_derivation::quic::initial"
+"deerlapse_0_1_0::key_derivation::quic::initial_secret": # @"deerlapse_0_1_0::key_derivation::quic::initial_secret"
 # %bb.0:                                # %start
 	pushq	%r15
 	pushq	%r14
@@ -13159,7 +13159,7 @@ deerlapse_0_1_0_quic_initial_secrets:         # @deerlapse_0_1_0_quic_initial_se
 	movl	%ebx, %edx
 	movq	%r14, %r8
 	movq	%rdi, %r9
-	callq	"deerlapse_0_1_0::key_derivation::quic::initial"
+	callq	"deerlapse_0_1_0::key_derivation::quic::initial_secret"
 	movb	(%r15), %r12b
 	movb	2(%r15), %bpl
 	movups	3(%r15), %xmm0
@@ -13175,7 +13175,7 @@ deerlapse_0_1_0_quic_initial_secrets:         # @deerlapse_0_1_0_quic_initial_se
 	movl	%ebx, %edx
 	movq	%r14, %r8
 	movq	%rdi, %r9
-	callq	"deerlapse_0_1_0::key_derivation::quic::initial"
+	callq	"deerlapse_0_1_0::key_derivation::quic::initial_secret"
 	movb	(%r15), %al
 	movb	2(%r15), %r14b
 	movups	3(%r15), %xmm0

@@ -284,7 +284,7 @@ fn loop_make_key<K: AeadKey>(times: u64, key: &[u8], buffer: &mut [u8]) -> u64 {
 
 /// `loop_make_key` of `aead_ciphers`.
 #[unsafe(no_mangle)]
-pub extern "C" fn bench_less_safe_key(times: u64, key: &[u8], buffer: &mut [u8]) -> u64 {
+pub extern "C" fn bench_make_key(times: u64, key: &[u8], buffer: &mut [u8]) -> u64 {
     loop_make_key::<LessSafeKey>(times, key, buffer)
 }
 

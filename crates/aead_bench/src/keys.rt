@@ -12,7 +12,7 @@ use aead_ciphers_wide::aead::quic::HeaderProtectionKey as WideHeaderKey;
 pub(crate) const MASK_LEN: usize = 5;
 
 /// The algorithm for a key of 16 or 32 bytes.
-pub(crate) fn algorithm(key: &[u8]) -> &'static Algorithm {
+pub(crate) fn algorithm_of_key(key: &[u8]) -> &'static Algorithm {
     match key.len() {
         AES_128_KEY_LEN => &AES_128_GCM,
         _ => &AES_256_GCM,
@@ -41,7 +41,7 @@ pub(crate) trait AeadKey: Drop {
 
 impl AeadKey for LessSafeKey {
     fn from_bytes(key: &[u8]) -> Result<Self, Unspecified> {
-        Ok(LessSafeKey::new(UnboundKey::new(algorithm(key), key)?))
+        Ok(LessSafeKey::new(UnboundKey::new(algorithm_of_key(key), key)?))
     }
 
     fn seal(&self, nonce: Nonce, aad: Aad<'_>, in_out: &mut [u8]) -> Result<Tag, Unspecified> {
@@ -56,7 +56,7 @@ impl AeadKey for LessSafeKey {
 
 impl AeadKey for WideKey {
     fn from_bytes(key: &[u8]) -> Result<Self, Unspecified> {
-        WideKey::new(algorithm(key), key)
+        WideKey::new(algorithm_of_key(key), key)
     }
 
     fn seal(&self, nonce: Nonce, aad: Aad<'_>, in_out: &mut [u8]) -> Result<Tag, Unspecified> {

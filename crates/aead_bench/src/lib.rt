@@ -5,7 +5,7 @@
 //! the loop makes no turn.
 //!
 //! `ciphers` has the loops over the keys of `aead_ciphers` and of `aead_ciphers_wide`, `packets` those over QUIC packets, and
-//! `records` those over records of TLS.
+//! `records_of_tls` those over records of TLS.
 #![tactic(auto)]
 
 mod ciphers;

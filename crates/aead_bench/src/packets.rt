@@ -1,6 +1,6 @@
 //! Loops over packets of QUIC.
 
-use crate::keys::algorithm;
+use crate::keys::algorithm_of_key;
 use crate::{NONCE, first_bytes};
 use aead_ciphers::aead::nonce_of;
 use aead_ciphers_base::aes::AES_128_KEY_LEN;
@@ -41,16 +41,16 @@ fn keys(key: &[u8]) -> Keys<'_> {
 
 /// One end of a QUIC connection that sends to itself.
 #[derive(Drop)]
-struct Connection {
+struct Loopback {
     sender: Sender,
     receiver: Receiver,
     space: Space<2>,
     failures: Failures,
 }
 
-impl Connection {
+impl Loopback {
     fn new(key: &[u8]) -> Result<Self, KeyError> {
-        Ok(Connection {
+        Ok(Loopback {
             sender: Sender::new(suite(key), keys(key), UNACKNOWLEDGED)?,
             receiver: Receiver::new(suite(key), keys(key))?,
             space: Space::new(),
@@ -91,7 +91,7 @@ fn without_header(packet: &mut [u8]) -> u64 {
 }
 
 /// Writes the first byte, for a packet number of 2 bytes, and the low bytes of a number into the header.
-fn write_header(packet: &mut [u8], number: u64) {
+fn write_short_header(packet: &mut [u8], number: u64) {
     if let Some(header) = packet.first_chunk_mut::<HEADER_LEN>() {
         let [.., high, low] = number.to_be_bytes();
         header[0] = SHORT_HEADER | 1;
@@ -103,7 +103,7 @@ fn write_header(packet: &mut [u8], number: u64) {
 /// Sends the buffer as a QUIC packet in place in each turn: a short header, a payload, and the tag in the last 16 bytes.
 #[unsafe(no_mangle)]
 pub extern "C" fn bench_send(times: u64, key: &[u8], buffer: &mut [u8]) -> u64 {
-    let Ok(mut connection) = Connection::new(key) else {
+    let Ok(mut connection) = Loopback::new(key) else {
         return 0
     };
     write_first_byte(buffer);
@@ -118,7 +118,7 @@ pub extern "C" fn bench_send(times: u64, key: &[u8], buffer: &mut [u8]) -> u64 {
 /// Sends the buffer as a QUIC packet in place and receives it, in each turn. Its parts are parsed once, before the turns.
 #[unsafe(no_mangle)]
 pub extern "C" fn bench_send_and_receive(times: u64, key: &[u8], buffer: &mut [u8]) -> u64 {
-    let Ok(mut connection) = Connection::new(key) else {
+    let Ok(mut connection) = Loopback::new(key) else {
         return 0
     };
     write_first_byte(buffer);
@@ -136,12 +136,12 @@ pub extern "C" fn bench_send_and_receive(times: u64, key: &[u8], buffer: &mut [u
 /// Seals what `bench_send` sends with a `LessSafeKey` of `aead_ciphers_wide`, without header protection.
 #[unsafe(no_mangle)]
 pub extern "C" fn bench_seal_packet(times: u64, key: &[u8], buffer: &mut [u8]) -> u64 {
-    let Ok(key) = LessSafeKey::new(algorithm(key), key) else {
+    let Ok(key) = LessSafeKey::new(algorithm_of_key(key), key) else {
         return 0
     };
     for number in 0..times.min(1 << 32) {
         let number = UNACKNOWLEDGED + number;
-        write_header(buffer, number);
+        write_short_header(buffer, number);
         if key
             .seal_packet_in_place(nonce_of(&NONCE, number), buffer, HEADER_LEN)
             .is_err()
@@ -155,12 +155,12 @@ pub extern "C" fn bench_seal_packet(times: u64, key: &[u8], buffer: &mut [u8]) -
 /// Seals and opens what `bench_send_and_receive` sends and receives with a `LessSafeKey` of `aead_ciphers_wide`, without header protection.
 #[unsafe(no_mangle)]
 pub extern "C" fn bench_seal_and_open_packet(times: u64, key: &[u8], buffer: &mut [u8]) -> u64 {
-    let Ok(key) = LessSafeKey::new(algorithm(key), key) else {
+    let Ok(key) = LessSafeKey::new(algorithm_of_key(key), key) else {
         return 0
     };
     for number in 0..times.min(1 << 32) {
         let number = UNACKNOWLEDGED + number;
-        write_header(buffer, number);
+        write_short_header(buffer, number);
         if key
             .seal_packet_in_place(nonce_of(&NONCE, number), buffer, HEADER_LEN)
             .is_err()

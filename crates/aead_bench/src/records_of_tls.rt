@@ -1,6 +1,6 @@
 //! Loops over records of TLS 1.3.
 
-use crate::keys::algorithm;
+use crate::keys::algorithm_of_key;
 use crate::{NONCE, first_bytes};
 use aead_ciphers::aead::nonce_of;
 use aead_ciphers_wide::aead::LessSafeKey;
@@ -26,7 +26,7 @@ fn first_bytes_after_header(buffer: &[u8]) -> u64 {
 #[unsafe(no_mangle)]
 pub extern "C" fn bench_seal_record(times: u64, key: &[u8], buffer: &mut [u8]) -> u64 {
     let (Ok(key), Some(len)) = (
-        RecordKey::new(algorithm(key), key, NONCE),
+        RecordKey::new(algorithm_of_key(key), key, NONCE),
         content_len(buffer),
     ) else {
         return 0;
@@ -46,7 +46,7 @@ pub extern "C" fn bench_seal_record(times: u64, key: &[u8], buffer: &mut [u8]) -
 #[unsafe(no_mangle)]
 pub extern "C" fn bench_seal_and_open_record(times: u64, key: &[u8], buffer: &mut [u8]) -> u64 {
     let (Ok(key), Some(len)) = (
-        RecordKey::new(algorithm(key), key, NONCE),
+        RecordKey::new(algorithm_of_key(key), key, NONCE),
         content_len(buffer),
     ) else {
         return 0;
@@ -77,7 +77,10 @@ fn frame(buffer: &mut [u8], len: usize) {
 /// Seals what `bench_seal_record` seals with a `LessSafeKey` of `aead_ciphers_wide`.
 #[unsafe(no_mangle)]
 pub extern "C" fn bench_seal_framed(times: u64, key: &[u8], buffer: &mut [u8]) -> u64 {
-    let (Ok(key), Some(len)) = (LessSafeKey::new(algorithm(key), key), content_len(buffer)) else {
+    let (Ok(key), Some(len)) = (
+        LessSafeKey::new(algorithm_of_key(key), key),
+        content_len(buffer),
+    ) else {
         return 0;
     };
     for number in 0..times {
@@ -95,7 +98,10 @@ pub extern "C" fn bench_seal_framed(times: u64, key: &[u8], buffer: &mut [u8]) -
 /// Seals and opens what `bench_seal_and_open_record` does with a `LessSafeKey` of `aead_ciphers_wide`.
 #[unsafe(no_mangle)]
 pub extern "C" fn bench_seal_and_open_framed(times: u64, key: &[u8], buffer: &mut [u8]) -> u64 {
-    let (Ok(key), Some(len)) = (LessSafeKey::new(algorithm(key), key), content_len(buffer)) else {
+    let (Ok(key), Some(len)) = (
+        LessSafeKey::new(algorithm_of_key(key), key),
+        content_len(buffer),
+    ) else {
         return 0;
     };
     for number in 0..times {

@@ -148,7 +148,7 @@ pub(crate) fn expand(multiples: &mut [u32; 512], value: KeyValue)
     ensures multiples { AreMultiples (to_be_bytes w128 (entry multiples.new 0)) multiples.new }
     ensures subkey { to_be_bytes w128 (entry multiples.new 0) ≡ value }
 {
-    product::write_multiples(multiples, number(value.block));
+    product::write_multiples(multiples, number_of_block(value.block));
 }
 
 /// A key for GHASH that borrows the multiples of its hash subkey.
@@ -181,7 +181,7 @@ impl<'k> KeyRef<'k> {
 }
 
 /// Returns the number whose big-endian bytes are `block`.
-fn number(block: Block) -> u128
+fn number_of_block(block: Block) -> u128
     ensures { to_be_bytes w128 result ≡ block }
 {
     u128::from_be_bytes(block)
@@ -191,7 +191,7 @@ impl<'k> UpdateBlock for KeyRef<'k> {
     ghost hash_subkey = { λ key. key };
 
     fn update_block(&self, xi: &mut Xi, block: Block, work: &mut Work) {
-        let sum = number(xi.block) ^ number(block);
+        let sum = number_of_block(xi.block) ^ number_of_block(block);
         xi.block = product::product(self.multiples, sum).to_be_bytes();
         work.add_product();
     }
@@ -199,9 +199,9 @@ impl<'k> UpdateBlock for KeyRef<'k> {
 
 impl<'k> UpdateBlocks for KeyRef<'k> {
     fn update_blocks(&self, xi: &mut Xi, input: AsChunks<'_, u8, BLOCK_LEN>, work: &mut Work) {
-        let mut sum = number(xi.block);
+        let mut sum = number_of_block(xi.block);
         for block in input {
-            sum = product::product(self.multiples, sum ^ number(*block));
+            sum = product::product(self.multiples, sum ^ number_of_block(*block));
             work.add_product();
         }
         xi.block = sum.to_be_bytes();

@@ -64,13 +64,13 @@ pub fn expand(products: &mut [u8; 512], squares: &mut [u8; 512], block: Block)
     ensures products { ArePowers products.new squares.new }
     ensures subkey { subkey products.new ≡ block }
 {
-    product::write_products(products, number(block));
+    product::write_products(products, number_of_block(block));
     let square = product::product(products, u8x16::from_array(block));
-    product::write_products(squares, number(square.to_array()));
+    product::write_products(squares, number_of_block(square.to_array()));
 }
 
 /// Returns the number whose big-endian bytes are `block`.
-fn number(block: Block) -> u128
+fn number_of_block(block: Block) -> u128
     ensures { to_be_bytes w128 result ≡ block }
 {
     u128::from_be_bytes(block)

@@ -69,7 +69,7 @@ fn seal_or_open(alloc: Global, verb: &str, fields: &mut [Vec<u8>]) -> Result<Str
 }
 
 /// The algorithm of a key: AES-128-GCM for 16 bytes, or else AES-256-GCM.
-fn algorithm(key: &[u8]) -> &'static Algorithm {
+fn algorithm_of_key(key: &[u8]) -> &'static Algorithm {
     if key.len() == AES_128_GCM.key_len() {
         &AES_128_GCM
     } else {
@@ -79,7 +79,7 @@ fn algorithm(key: &[u8]) -> &'static Algorithm {
 
 /// Creates the key of `aead_ciphers`.
 fn less_safe_key(bytes: &[u8]) -> Result<LessSafeKey, NoVector> {
-    Ok(LessSafeKey::new(UnboundKey::new(algorithm(bytes), bytes)?))
+    Ok(LessSafeKey::new(UnboundKey::new(algorithm_of_key(bytes), bytes)?))
 }
 
 /// What is said of a vector for which the two keys don't make the same.
@@ -97,7 +97,7 @@ fn seal_by_both(
 ) -> Result<String, NoVector> {
     let nonce = Nonce::try_assume_unique_for_key(iv)?;
     let mut sealed = in_out.to_vec(alloc)?;
-    let wide_tag = WideKey::new(algorithm(key), key)?.seal_in_place_separate_tag(
+    let wide_tag = WideKey::new(algorithm_of_key(key), key)?.seal_in_place_separate_tag(
         Nonce::try_assume_unique_for_key(iv)?,
         Aad::from(aad),
         &mut sealed,
@@ -122,7 +122,7 @@ fn open_by_both(
 ) -> Result<String, NoVector> {
     let tag = Tag::try_from(tag)?;
     let mut opened = in_out.to_vec(alloc)?;
-    let by_wide = WideKey::new(algorithm(key), key)?.open_in_place_separate_tag_to_front(
+    let by_wide = WideKey::new(algorithm_of_key(key), key)?.open_in_place_separate_tag_to_front(
         Nonce::try_assume_unique_for_key(iv)?,
         Aad::from(aad),
         tag,

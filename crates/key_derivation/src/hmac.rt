@@ -24,7 +24,7 @@ impl<H: Hash> HmacKey<H> {
     pub fn new(key: &[u8]) -> Self
         ensures { IsKey H.function H.holds key.now result }
     {
-        let block = block_of::<H>(key);
+        let block = key_block::<H>(key);
         let block = &block[..H::BLOCK_LEN];
         HmacKey {
             inner: absorb_xored(block, 0x36),
@@ -65,7 +65,7 @@ impl<H: Hash> HmacKey<H> {
 }
 
 /// The key, hashed if it is longer than a block, with zeros after it.
-fn block_of<H: Hash>(key: &[u8]) -> [u8; MAX_BLOCK_LEN]
+fn key_block<H: Hash>(key: &[u8]) -> [u8; MAX_BLOCK_LEN]
     ensures { take H.BLOCK_LEN result ≡ block_key H.function key.now }
 {
     let mut block = [0u8; MAX_BLOCK_LEN];

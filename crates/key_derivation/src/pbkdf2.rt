@@ -57,7 +57,7 @@ fn fill_derived_key<H: Hash>(password: &[u8], salt: &[u8], further: u32, out: &m
     'rounds: for i in 0..blocks {
         let mut block = [0u8; MAX_OUTPUT_LEN];
         let block_len = H::OUTPUT_LEN;
-        add_codes(&key, salt, further, (i + 1) as u32, &mut block[..block_len]);
+        xor_codes(&key, salt, further, (i + 1) as u32, &mut block[..block_len]);
         let n = usize::min(block_len, len - filled);
         out[filled..filled + n].copy_from_slice(&block[..n]);
         filled += n;
@@ -65,7 +65,7 @@ fn fill_derived_key<H: Hash>(password: &[u8], salt: &[u8], further: u32, out: &m
 }
 
 /// Writes the XOR of the codes of one block: of the first, and of `further` ones.
-fn add_codes<H: Hash>(key: &HmacKey<H>, salt: &[u8], further: u32, index: u32, sum: &mut [u8])
+fn xor_codes<H: Hash>(key: &HmacKey<H>, salt: &[u8], further: u32, index: u32, sum: &mut [u8])
     requires { length sum.old ≡ H.OUTPUT_LEN }
     ensures { (password : List ℕ) → IsKey H.function H.holds password key.now
         → sum.new ≡ pbkdf2_sum H.function password salt.now index (further + 1) }

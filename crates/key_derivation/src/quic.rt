@@ -164,7 +164,7 @@ impl QuicSecret {
         ensures refused { IsOkUnless result DerivationError.ConnectionIdLength }
         ensures made { IfOk result (λ s. s ≡ client_initial_secret version id.now) }
     {
-        initial(version, id, b"client in")
+        initial_secret(version, id, b"client in")
     }
 
     /// Creates the secret of the Initial packets that a server sends, from the Destination Connection ID of the client's
@@ -176,7 +176,7 @@ impl QuicSecret {
         ensures refused { IsOkUnless result DerivationError.ConnectionIdLength }
         ensures made { IfOk result (λ s. s ≡ server_initial_secret version id.now) }
     {
-        initial(version, id, b"server in")
+        initial_secret(version, id, b"server in")
     }
 
     /// Returns the secret's version.
@@ -251,7 +251,7 @@ fn derive_keys<H: Hash>(version: Version, secret: &[u8], suite: Suite) -> QuicKe
 }
 
 /// The secret of an endpoint by its label.
-fn initial(version: Version, id: &[u8], label: &[u8]) -> Result<QuicSecret, DerivationError>
+fn initial_secret(version: Version, id: &[u8], label: &[u8]) -> Result<QuicSecret, DerivationError>
     requires { length label.now ≤ 249 }
     ensures accepted { IsOk result ↔ (length id.now ≤ 20) }
     ensures refused { IsOkUnless result DerivationError.ConnectionIdLength }

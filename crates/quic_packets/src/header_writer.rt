@@ -253,13 +253,13 @@ fn token_field_len(packet_type: LongType<'_>) -> usize
     ensures few { result ≤ 2 ^ 30 + 3 }
 {
     match packet_type {
-        LongType::Initial { token } => integer_len(fewest(token.len())) + token.len(),
+        LongType::Initial { token } => integer_len(fewest_bytes_log(token.len())) + token.len(),
         _ => 0,
     }
 }
 
 /// The base-2 logarithm of the fewest bytes for a value below 2^30.
-fn fewest(value: usize) -> u8
+fn fewest_bytes_log(value: usize) -> u8
     ensures { result ≡ fewest value }
 {
     if value < 1 << 6 {
@@ -332,7 +332,7 @@ fn put_token(buffer: &mut [u8], at: usize, packet_type: LongType<'_>) -> usize
 {
     match packet_type {
         LongType::Initial { token } => {
-            let at = put_integer(buffer, at, fewest(token.len()), token.len());
+            let at = put_integer(buffer, at, fewest_bytes_log(token.len()), token.len());
             put(buffer, at, token)
         }
         _ => at,

@@ -380,7 +380,7 @@ impl Arguments {
             return Err(Failure::Use(anyhow!("missing FILE")));
         };
         let file = file_of(file);
-        let key_file = key_file.map(key_file_of);
+        let key_file = key_file.map(key_file_named);
         if file.is_none() && key_file.as_ref().is_some_and(|key| key.name.is_none()) {
             return Err(Failure::Use(anyhow!("standard input is both FILE and the key")));
         }
@@ -466,7 +466,7 @@ fn secret_file_of(
     passphrase_file: Option<Name>,
 ) -> Result<SecretFile, Failure> {
     match (key_file, passphrase_file) {
-        (Some(name), None) => Ok(SecretFile::Key(key_file_of(name))),
+        (Some(name), None) => Ok(SecretFile::Key(key_file_named(name))),
         (None, Some(name)) => Ok(SecretFile::Passphrase(file_of(name))),
         (None, None) => Err(Failure::Use(anyhow!("missing -k KEYFILE or --passphrase-file FILE"))),
         (Some(_), Some(_)) => {
@@ -493,7 +493,7 @@ fn file_of(name: Name) -> Option<Name> {
 }
 
 /// The key file with this name.
-fn key_file_of(name: Name) -> KeyFile {
+fn key_file_named(name: Name) -> KeyFile {
     KeyFile {
         name: file_of(name),
     }

@@ -75,7 +75,7 @@ fn derived_block(cmac: &Cmac, context: &Context, iteration: u16) -> Block
 }
 
 /// Two blocks, concatenated.
-fn joined(first: &Block, second: &Block) -> [u8; AES_256_KEY_LEN]
+fn key_of_blocks(first: &Block, second: &Block) -> [u8; AES_256_KEY_LEN]
     ensures { result ≡ first.now ++ second.now }
 {
     let mut bytes = [0; AES_256_KEY_LEN];
@@ -88,7 +88,7 @@ fn joined(first: &Block, second: &Block) -> [u8; AES_256_KEY_LEN]
 pub(crate) fn derived_key(cmac: &Cmac, context: &Context) -> [u8; AES_256_KEY_LEN]
     ensures { result ≡ derived_key cmac.now context.now }
 {
-    joined(
+    key_of_blocks(
         &derived_block(cmac, context, 1),
         &derived_block(cmac, context, 2),
     )
@@ -98,7 +98,7 @@ pub(crate) fn derived_key(cmac: &Cmac, context: &Context) -> [u8; AES_256_KEY_LE
 pub(crate) fn commitment(cmac: &Cmac, context: &Context) -> [u8; AES_256_KEY_LEN]
     ensures { result ≡ commitment cmac.now context.now }
 {
-    joined(
+    key_of_blocks(
         &derived_block(cmac, context, 3),
         &derived_block(cmac, context, 4),
     )

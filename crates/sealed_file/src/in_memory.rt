@@ -10,7 +10,7 @@ use crate::error::FileError;
 use crate::header::{ChunkCipher, HEADER_LEN, VERSION, cipher_of};
 use crate::key::FileKey;
 use crate::random::FileRandom;
-use crate::read_at::bytes_from;
+use crate::read_at::bytes_from_offset;
 use aead_ciphers::aead::{MAX_TAG_LEN, Tag};
 
 /// The number of the last piece when `len` bytes are cut into pieces of `size` bytes.
@@ -47,7 +47,7 @@ fn append(bytes: &[u8], out: &mut Vec<u8>)
 }
 
 /// Seals the chunk that is `bytes` from `start` on, at most `CHUNK_LEN` bytes, in place, and returns its tag.
-fn seal_tail(
+fn seal_chunk_from(
     cipher: &ChunkCipher,
     number: u32,
     is_last: bool,
@@ -73,7 +73,7 @@ fn append_sealed(cipher: &ChunkCipher, number: u32, is_last: bool, chunk: &[u8],
 {
     let start = out.len();
     append(chunk, out);
-    let tag = seal_tail(cipher, number, is_last, out, start);
+    let tag = seal_chunk_from(cipher, number, is_last, out, start);
     append(tag.as_ref(), out);
 }
 
@@ -134,7 +134,7 @@ pub fn seal_bytes(
 }
 
 /// Decrypts the ciphertext that is `bytes` from `start` on, at most `CHUNK_LEN` bytes.
-fn open_tail(
+fn open_chunk_from(
     cipher: &ChunkCipher,
     number: u32,
     is_last: bool,
@@ -179,14 +179,14 @@ pub(crate) fn append_opened(
     };
     let start = out.len();
     append(ciphertext, out);
-    open_tail(cipher, number, is_last, tag, out, start)
+    open_chunk_from(cipher, number, is_last, tag, out, start)
 }
 
 /// The bytes after the header of a sealed file.
 fn body_of(sealed: &[u8]) -> &[u8]
     ensures { result.now ≡ body_of sealed.now }
 {
-    bytes_from(sealed, HEADER_LEN as u64)
+    bytes_from_offset(sealed, HEADER_LEN as u64)
 }
 
 /// The number of the last chunk of a sealed file.

@@ -49,7 +49,7 @@ fn passphrase_key(passphrase: &[u8], random: &[u8], iterations: u32) -> FileKey
 }
 
 /// Both, one after the other.
-fn joined(alloc: Global, first: &[u8], second: &[u8]) -> io::Result<Vec<u8>>
+fn concatenated(alloc: Global, first: &[u8], second: &[u8]) -> io::Result<Vec<u8>>
     ensures { IfOk result (λ both. both.items ≡ first.now ++ second.now) }
 {
     let mut both = Vec::new(alloc);
@@ -88,10 +88,10 @@ pub fn seal_with_passphrase<R: Read, W: Write>(
         (sealed_file (fresh_passphrase_key passphrase.now aad.now random iterations) file))) }
 {
     let bytes = iterations.to_be_bytes();
-    let aad = joined(alloc, &bytes, aad)?;
+    let aad = concatenated(alloc, &bytes, aad)?;
     let key = passphrase_key(passphrase, random.as_bytes(), iterations);
     let cipher = ChunkCipher::new(PASSPHRASE_VERSION, &key, &aad, &random);
-    let header = joined(alloc, cipher.header(), &bytes)?;
+    let header = concatenated(alloc, cipher.header(), &bytes)?;
     seal_under(alloc, &header, &cipher, input, output)
 }
 
@@ -146,7 +146,7 @@ fn derive_key_and_aad(
 {
     let random = &file[FRONT_LEN..FRONT_LEN + RANDOM_LEN];
     let key = passphrase_key(passphrase, random, iterations);
-    let aad = joined(alloc, &file[HEADER_LEN..PASSPHRASE_HEADER_LEN], aad)?;
+    let aad = concatenated(alloc, &file[HEADER_LEN..PASSPHRASE_HEADER_LEN], aad)?;
     Ok(Unlocked { key, aad })
 }
 

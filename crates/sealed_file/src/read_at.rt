@@ -53,7 +53,7 @@ pub trait ReadAt {
 }
 
 /// The bytes from `at` on, or none if there are fewer.
-pub(crate) fn bytes_from(bytes: &[u8], at: u64) -> &[u8]
+pub(crate) fn bytes_from_offset(bytes: &[u8], at: u64) -> &[u8]
     ensures { result.now ≡ drop at bytes.now }
 {
     if bytes.len() as u64 <= at {
@@ -69,7 +69,7 @@ pub(crate) fn read_slice_at(bytes: &[u8], at: u64, buf: &mut [u8]) -> usize
     ensures copied { take result buf.new ≡ take result (drop at bytes.now) }
     ensures rest { drop result buf.new ≡ drop result buf.old }
 {
-    let rest = bytes_from(bytes, at);
+    let rest = bytes_from_offset(bytes, at);
     let count = rest.len().min(buf.len());
     buf[..count].copy_from_slice(&rest[..count]);
     count

@@ -88,7 +88,7 @@ pub(crate) fn last_of(sealed_len: u64) -> Result<(u32, usize), FileError>
 }
 
 /// The length of the message of a chunk, given the last chunk and the length of its message.
-fn len_of(number: u32, last: u32, last_len: usize) -> usize
+fn message_len(number: u32, last: u32, last_len: usize) -> usize
     requires { last_len ≤ chunk_len }
     ensures value { result ≡ message_len last last_len number }
     ensures short { result ≤ chunk_len }
@@ -247,7 +247,7 @@ fn open_chunk_of<R: ReadAt>(
     ensures len { length buffer.new ≡ sealed_chunk_len }
     ensures same { R.bytes input.new ≡ R.bytes input.old }
 {
-    let len = len_of(number, layout.last, layout.last_len) + MAX_TAG_LEN;
+    let len = message_len(number, layout.last, layout.last_len) + MAX_TAG_LEN;
     let at = layout.start + HEADER_LEN as u64 + u64::from(number) * SEALED_CHUNK_LEN as u64;
     open_from(
         input,
@@ -361,7 +361,7 @@ impl<R: ReadAt + Drop> SealedReader<R> {
         if buf.is_empty() {
             return Ok(0);
         }
-        let len = len_of(number, last, last_len);
+        let len = message_len(number, last, last_len);
         if self.held == Some(number) {
             return Ok(read_slice_at(&self.buffer[..len], at, buf));
         }

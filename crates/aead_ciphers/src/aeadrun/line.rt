@@ -91,19 +91,19 @@ impl Command {
             rest: line.split(' '),
         };
         let command = match words.next()? {
-            "seal" => Command::Call(Call::seal(&mut words)?),
-            "open" => Command::Call(Call::open(&mut words)?),
-            "mask" => Command::Call(Call::mask(&mut words)?),
-            "keys" => Command::keys(&mut words)?,
-            "next-seal" => Command::Next(Next::seal(&mut words)?),
-            "next-open" => Command::Next(Next::open(&mut words)?),
+            "seal" => Command::Call(Call::parse_seal(&mut words)?),
+            "open" => Command::Call(Call::parse_open(&mut words)?),
+            "mask" => Command::Call(Call::parse_mask(&mut words)?),
+            "keys" => Command::parse_keys(&mut words)?,
+            "next-seal" => Command::Next(Next::parse_seal(&mut words)?),
+            "next-open" => Command::Next(Next::parse_open(&mut words)?),
             _ => return Err(LineError::BadLine),
         };
         words.end()?;
         Ok(command)
     }
 
-    fn keys(words: &mut Words<'_>) -> Result<Command, LineError> {
+    fn parse_keys(words: &mut Words<'_>) -> Result<Command, LineError> {
         Ok(Command::Keys {
             algorithm: words.algorithm()?,
             key: words.bytes()?,
@@ -115,7 +115,7 @@ impl Command {
 }
 
 impl Call {
-    fn seal(words: &mut Words<'_>) -> Result<Call, LineError> {
+    fn parse_seal(words: &mut Words<'_>) -> Result<Call, LineError> {
         Ok(Call::Seal {
             algorithm: words.algorithm()?,
             key: words.bytes()?,
@@ -125,7 +125,7 @@ impl Call {
         })
     }
 
-    fn open(words: &mut Words<'_>) -> Result<Call, LineError> {
+    fn parse_open(words: &mut Words<'_>) -> Result<Call, LineError> {
         Ok(Call::Open {
             algorithm: words.algorithm()?,
             key: words.bytes()?,
@@ -136,7 +136,7 @@ impl Call {
         })
     }
 
-    fn mask(words: &mut Words<'_>) -> Result<Call, LineError> {
+    fn parse_mask(words: &mut Words<'_>) -> Result<Call, LineError> {
         Ok(Call::Mask {
             algorithm: words.mask_algorithm()?,
             key: words.bytes()?,
@@ -146,14 +146,14 @@ impl Call {
 }
 
 impl Next {
-    fn seal(words: &mut Words<'_>) -> Result<Next, LineError> {
+    fn parse_seal(words: &mut Words<'_>) -> Result<Next, LineError> {
         Ok(Next::Seal {
             aad: words.bytes()?,
             message: words.bytes()?,
         })
     }
 
-    fn open(words: &mut Words<'_>) -> Result<Next, LineError> {
+    fn parse_open(words: &mut Words<'_>) -> Result<Next, LineError> {
         Ok(Next::Open {
             aad: words.bytes()?,
             start: words.number()? as usize,

@@ -43,13 +43,13 @@ pub(crate) fn product(table: &[u32; 512], block: u128) -> u128
     let mut third = u32x4::splat(0);
     let mut fourth = u32x4::splat(0);
     for i in 0..32 {
-        first = add_chosen(first, bits, four_words(table, 4 * i));
-        second = add_chosen(second, bits, four_words(table, 128 + 4 * i));
-        third = add_chosen(third, bits, four_words(table, 256 + 4 * i));
-        fourth = add_chosen(fourth, bits, four_words(table, 384 + 4 * i));
+        first = add_chosen(first, bits, table_words(table, 4 * i));
+        second = add_chosen(second, bits, table_words(table, 128 + 4 * i));
+        third = add_chosen(third, bits, table_words(table, 256 + 4 * i));
+        fourth = add_chosen(fourth, bits, table_words(table, 384 + 4 * i));
         bits = bits + bits;
     }
-    joined(
+    number_of_words(
         first.reduce_xor(),
         second.reduce_xor(),
         third.reduce_xor(),
@@ -73,7 +73,7 @@ fn words(block: u128) -> u32x4
 /// Returns the block with these four words, the most significant first.
 #[tactic(auto, using(crate::proofs::BlockLanes::joined_is))]
 #[inline(always)]
-fn joined(first: u32, second: u32, third: u32, fourth: u32) -> u128
+fn number_of_words(first: u32, second: u32, third: u32, fourth: u32) -> u128
     ensures { result ≡ number_of_words (first ∷ second ∷ third ∷ fourth ∷ []) }
 {
     (u128::from(first) << 96)
@@ -84,7 +84,7 @@ fn joined(first: u32, second: u32, third: u32, fourth: u32) -> u128
 
 /// Returns the four words of `table` from index `at` on.
 #[inline(always)]
-fn four_words(table: &[u32; 512], at: usize) -> u32x4
+fn table_words(table: &[u32; 512], at: usize) -> u32x4
     requires { at + 4 ≤ 512 }
     ensures read { (j : ℕ) → j < 4 → slice_index result j ≡ slice_index table.now (at + j) }
     ensures fits { (j : ℕ) → j < 4 → slice_index result j < 2 ^ 32 }

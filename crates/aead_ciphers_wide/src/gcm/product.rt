@@ -83,8 +83,8 @@ fn looked_up(table: &[u8; 512], at: usize, high: u8x16, low: u8x16) -> u8x16
         ≡ bit_xor (slice_index table.now (at + slice_index high i)) (slice_index table.now (256 + at + slice_index low i)) }
 {
     add(
-        look_up(row(table, at).to_array(), high),
-        look_up(row(table, 256 + at).to_array(), low),
+        look_up(table_row(table, at).to_array(), high),
+        look_up(table_row(table, 256 + at).to_array(), low),
     )
 }
 
@@ -99,7 +99,7 @@ fn digits(bytes: u8x16) -> (u8x16, u8x16)
 
 /// Returns the 16 bytes of `table` from index `at` on.
 #[inline(always)]
-fn row(table: &[u8; 512], at: usize) -> u8x16
+fn table_row(table: &[u8; 512], at: usize) -> u8x16
     requires { at + 16 ≤ 512 }
     ensures { (n : ℕ) → n < 16 → slice_index result n ≡ slice_index table.now (at + n) }
 {
@@ -170,14 +170,14 @@ pub(crate) fn write_products(table: &mut [u8; 512], block: u128)
         let at = r as u8;
         let high = sums_at(multiples[0], multiples[1], multiples[2], multiples[3], at);
         let low = sums_at(multiples[4], multiples[5], multiples[6], multiples[7], at);
-        write_row(table, 16 * r, high);
-        write_row(table, 256 + 16 * r, low);
+        write_table_row(table, 16 * r, high);
+        write_table_row(table, 256 + 16 * r, low);
     }
 }
 
 /// Writes `row` to the 16 bytes of `table` from index `at` on.
 #[inline(always)]
-fn write_row(table: &mut [u8; 512], at: usize, row: u8x16)
+fn write_table_row(table: &mut [u8; 512], at: usize, row: u8x16)
     requires { at + 16 ≤ 512 }
     ensures { table.new ≡ put_chunk at table.old row }
 {
@@ -212,7 +212,7 @@ fn word_of(number: u128) -> Word
 /// Returns the bytes of `number`, the most significant first. They are exchanged in the number, not in the vector: there
 /// the compiler would move them one by one.
 #[inline(always)]
-fn bytes_of(number: u128) -> u8x16
+fn bytes_of_number(number: u128) -> u8x16
     ensures { result ≡ to_be_bytes w128 number }
 {
     word_of(number.swap_bytes()).bytes()
@@ -226,14 +226,14 @@ fn blocks(numbers: [u128; 8]) -> [u8x16; 8]
 {
     let [n0, n1, n2, n3, n4, n5, n6, n7] = numbers;
     [
-        bytes_of(n0),
-        bytes_of(n1),
-        bytes_of(n2),
-        bytes_of(n3),
-        bytes_of(n4),
-        bytes_of(n5),
-        bytes_of(n6),
-        bytes_of(n7),
+        bytes_of_number(n0),
+        bytes_of_number(n1),
+        bytes_of_number(n2),
+        bytes_of_number(n3),
+        bytes_of_number(n4),
+        bytes_of_number(n5),
+        bytes_of_number(n6),
+        bytes_of_number(n7),
     ]
 }
 

@@ -318,9 +318,9 @@ impl Ends {
         ensures followed { self.new.sender ≡ following self.old.sender (phase_of self.old.receiver) (phase_of self.new.receiver) }
         ensures kept { OnErr result (self.new ≡ self.old) }
     {
-        let before = self.phase();
+        let before = self.receiver_phase();
         let opened = self.open(failures, datagram, parts);
-        let after = self.phase();
+        let after = self.receiver_phase();
         if before != after {
             self.enter(after);
         }
@@ -328,7 +328,7 @@ impl Ends {
     }
 
     /// The receiver's key phase.
-    fn phase(&self) -> bool
+    fn receiver_phase(&self) -> bool
         ensures { result ≡ phase_of self.now.receiver }
     {
         match &self.receiver {

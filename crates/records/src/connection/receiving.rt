@@ -211,7 +211,7 @@ fn receive_record(
 
 /// Receives the record `bytes[at..end]`.
 #[tactic(auto, using(std::proofs::lemmas::Slice::overwrites))]
-fn receive_at(
+fn receive_record_at(
     alloc: Global,
     incoming: &mut Incoming,
     messages: &mut MessageReader<'_>,
@@ -241,7 +241,7 @@ fn receive_at(
 
 /// The length of the protected record at the front of these bytes, or `None` if it is not whole.
 #[tactic(auto, unfolding(crate::specs::Stream::NeedsMore))]
-fn protected_len(bytes: &[u8]) -> Result<Option<usize>, RecordError>
+fn protected_record_len(bytes: &[u8]) -> Result<Option<usize>, RecordError>
     ensures len { IfOk result (λ found. IfSome found (λ n. (0 < n) × (n ≤ length bytes.now)
         × BeginsProtected bytes.now n)) }
     ensures more { IfOk result (λ found. found ≡ None → NeedsMore bytes.now) }
@@ -277,9 +277,9 @@ pub(super) fn receive_records(
     ensures is_of { IsOfSecret incoming.new.reader.secret incoming.new.reader.key }
 {
     let mut at = 0;
-    while let Some(len) = protected_len(&bytes[at..])? {
+    while let Some(len) = protected_record_len(&bytes[at..])? {
         let end = at + len;
-        receive_at(alloc, incoming, messages, bytes, at, end, received)?;
+        receive_record_at(alloc, incoming, messages, bytes, at, end, received)?;
         if incoming.is_ended {
             return Ok(end);
         }

@@ -19,8 +19,8 @@ loop-block-preserved c =
       products = omega arith;
       hashed = λ done at.
           front_more c.args.self.now c.in-Some.block.now _ _ _ _ _ c.in-Some.ensures.steps
-          (λ front was. hash_one c.args.self.now _ c.in-Some.block.now (entry c.self.inside.multiples.now 0) c.loop-block.sum c.number.result
-          c.product-sum.result front c.self.view_is refl c.number.ensures c.product-sum.ensures was)
+          (λ front was. hash_one c.args.self.now _ c.in-Some.block.now (entry c.self.inside.multiples.now 0) c.loop-block.sum c.number_of_block.result
+          c.product-sum.result front c.self.view_is refl c.number_of_block.ensures c.product-sum.ensures was)
           (c.loop-block.invariant.hashed done at);
     }
 

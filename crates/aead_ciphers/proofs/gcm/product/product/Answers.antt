@@ -29,10 +29,10 @@ loop-i-preserved c =
       sums = λ j within.
           let sums = lane c.loop-i.first c.loop-i.second c.loop-i.third c.loop-i.fourth j in
           let b = slice_index c.loop-i.bits j / 2 ^ 31 == 1 in
-          let one = c.four_words in
-          let two = c.four_words-in-loop-i in
-          let three = c.four_words-in-loop-i-2 in
-          let four = c.four_words-in-loop-i-3 in
+          let one = c.table_words in
+          let two = c.table_words-in-loop-i in
+          let three = c.table_words-in-loop-i-2 in
+          let four = c.table_words-in-loop-i-3 in
           let words = lane one.result two.result three.result four.result j in
           let small_sums = small-lane c.loop-i.first c.loop-i.second c.loop-i.third c.loop-i.fourth j at.first at.second at.third at.fourth within in
           let small_words : AllSmall words =
@@ -61,6 +61,6 @@ returns c =
     let sums : (j : ℕ) → j < 4 → IsStretch a h (32 * j) 32 (number_of_words (lane c.loop-i.first c.loop-i.second c.loop-i.third c.loop-i.fourth j)) =
     λ j within. subst (λ n. IsStretch a h (32 * j) n (number_of_words (lane c.loop-i.first c.loop-i.second c.loop-i.third c.loop-i.fourth j))) all
     (c.loop-i.invariant.sums j within) in
-    product_end a h _ _ _ _ c.joined.result (search rules)
-    (c.joined.ensures ∙ number-lanes c.loop-i.first c.loop-i.second c.loop-i.third c.loop-i.fourth at.first at.second at.third at.fourth)
+    product_end a h _ _ _ _ c.number_of_words.result (search rules)
+    (c.number_of_words.ensures ∙ number-lanes c.loop-i.first c.loop-i.second c.loop-i.third c.loop-i.fourth at.first at.second at.third at.fourth)
     (sums 0 (omega arith)) (sums 1 (omega arith)) (sums 2 (omega arith)) (sums 3 (omega arith))

@@ -16,7 +16,7 @@ loop-r-preserved c =
     let size = c.loop-r.invariant.size in
     let size_high : length high ≡ 16 = omega arith in
     let size_low : length low ≡ 16 = omega arith in
-    let written = c.write_row-in-loop-r.ensures ∙ ap (λ t. put_chunk (256 + 16 * r) t low) c.write_row.ensures in
+    let written = c.write_table_row-in-loop-r.ensures ∙ ap (λ t. put_chunk (256 + 16 * r) t low) c.write_table_row.ensures in
     record {
       size = ap length written ∙ length-put_chunk (256 + 16 * r) (put_chunk (16 * r) table high) low ∙ length-put_chunk (16 * r) table high ∙ size;
       bytes = λ q within done.

@@ -11,8 +11,8 @@ pub returns : goal.returns
 unfolding inner_block outer_block
 returns g c =
     let key = block_key g.H.Hash.function c.args.key.now in
-    let is_key : take c.BLOCK_LEN.result c.block_of-block.result ≡ key =
-    ap (λ n. take n c.block_of-block.result) c.BLOCK_LEN.ensures ∙ c.block_of-block.ensures in
+    let is_key : take c.BLOCK_LEN.result c.key_block-block.result ≡ key =
+    ap (λ n. take n c.key_block-block.result) c.BLOCK_LEN.ensures ∙ c.key_block-block.ensures in
     record {
       inner = absorbs g.H.Digest.holds _ 0x36 _ key c.absorb_xored.ensures is_key;
       outer = absorbs g.H.Digest.holds _ 0x5c _ key c.absorb_xored-2.ensures is_key;

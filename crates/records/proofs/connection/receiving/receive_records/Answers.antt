@@ -11,13 +11,13 @@ returns-in_err-len-clause-rejected c =
     (rejects_header _ _ c.loop-len.bytes _ _ c.loop-len.at _ c.loop-len.invariant.taken c.loop-len.invariant.kept
     c.in_err-len.ensures.refused)
 
-pub returns-in_err-receive_at-clause-rejected : goal.returns-in_err-receive_at-clause-rejected
-returns-in_err-receive_at-clause-rejected c =
-    let p = err_from_is_err_and c.from_residual-in_err-receive_at.result c.from_residual-in_err-receive_at.ensures.1 in
+pub returns-in_err-receive_record_at-clause-rejected : goal.returns-in_err-receive_record_at-clause-rejected
+returns-in_err-receive_record_at-clause-rejected c =
+    let p = err_from_is_err_and c.from_residual-in_err-receive_record_at.result c.from_residual-in_err-receive_record_at.ensures.1 in
     let found = rw c.in-Some.is at c.in_ok-len.ensures.len in
-    let failed = c.in_err-receive_at.ensures in
+    let failed = c.in_err-receive_record_at.ensures in
     rw (p.1, p.2)
-    (rejects_record _ _ _ c.loop-len.bytes c.receive_at.new.bytes _ _ _ c.loop-len.at c.in-Some.len _ c.loop-len.invariant.taken
+    (rejects_record _ _ _ c.loop-len.bytes c.receive_record_at.new.bytes _ _ _ c.loop-len.at c.in-Some.len _ c.loop-len.invariant.taken
     c.loop-len.invariant.kept found.2 c.loop-len.invariant.capacity failed.failed failed.left failed.kept)
 
 pub returns-then-incoming-clause-taken : goal.returns-then-incoming-clause-taken
@@ -25,24 +25,24 @@ returns-then-incoming-clause-taken c =
     let found = rw c.in-Some.is at c.in_ok-len.ensures.len in
     let before = c.loop-len.invariant in
     takes_record c.args.bytes.now c.loop-len.bytes _ _ _ c.loop-len.at c.in-Some.len before.taken before.kept before.same_len
-    before.in_range found.1 c.in_ok-receive_at.ensures.step
+    before.in_range found.1 c.in_ok-receive_record_at.ensures.step
 
 pub returns-then-incoming-clause-kept : goal.returns-then-incoming-clause-kept
 returns-then-incoming-clause-kept c =
-    kept_more c.args.bytes.now c.loop-len.bytes c.receive_at.new.bytes c.loop-len.at _ c.loop-len.invariant.kept (omega arith)
-    c.in_ok-receive_at.ensures.kept
+    kept_more c.args.bytes.now c.loop-len.bytes c.receive_record_at.new.bytes c.loop-len.at _ c.loop-len.invariant.kept (omega arith)
+    c.in_ok-receive_record_at.ensures.kept
 
 pub loop-len-preserved : goal.loop-len-preserved
 loop-len-preserved c =
     let found = rw c.in-Some.is at c.in_ok-len.ensures.len in
     let before = c.loop-len.invariant in
-    let received = c.in_ok-receive_at.ensures in
+    let received = c.in_ok-receive_record_at.ensures in
     record {
       in_range = search rules;
       same_len = search rules;
       taken = takes_record c.args.bytes.now c.loop-len.bytes _ _ _ c.loop-len.at c.in-Some.len before.taken before.kept
           before.same_len before.in_range found.1 received.step;
-      kept = kept_more c.args.bytes.now c.loop-len.bytes c.receive_at.new.bytes c.loop-len.at _ before.kept (omega arith) received.kept;
+      kept = kept_more c.args.bytes.now c.loop-len.bytes c.receive_record_at.new.bytes c.loop-len.at _ before.kept (omega arith) received.kept;
       is_of = received.is_of;
       going = c.if-incoming.false;
       is_open = received.open;

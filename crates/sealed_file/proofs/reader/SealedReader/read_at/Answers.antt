@@ -11,16 +11,16 @@ pub returns-then-eq-clause-count : goal.returns-then-eq-clause-count
 returns-then-eq-clause-count g c =
     let l = c.self.inside.layout in
     let place = c.in-Some.ensures in
-    let short = c.len_of-len.ensures.short in
-    count_there l.last l.last_len c.args.offset c.self.invariant.short (place.known.0 refl) _ _ _ _ _ (take c.len_of-len.result c.deref.result.now)
+    let short = c.message_len-len.ensures.short in
+    count_there l.last l.last_len c.args.offset c.self.invariant.short (place.known.0 refl) _ _ _ _ _ (take c.message_len-len.result c.deref.result.now)
     (sym (ap (λ (r : ReaderState). r.len) c.self.view_is)) place.number place.at place.in_range
     (omega (
       arith,
-      length-take c.len_of-len.result c.deref.result.now,
+      length-take c.message_len-len.result c.deref.result.now,
       ap length c.deref.ensures.value,
       c.self.invariant.room,
       short,
-      c.len_of-len.ensures.value,
+      c.message_len-len.ensures.value,
     ))
     c.read_slice_at.ensures.count
 
@@ -28,15 +28,15 @@ pub returns-then-eq-clause-opened : goal.returns-then-eq-clause-opened
 returns-then-eq-clause-opened g c =
     let l = c.self.inside.layout in
     let place = c.in-Some.ensures in
-    let short = c.len_of-len.ensures.short in
+    let short = c.message_len-len.ensures.short in
     let n = c.read_slice_at.result in
     subst (λ (r : ReaderState). IfSome r.file (λ file. take n c.read_slice_at.new.buf ≡ take n (drop c.args.offset (plaintext_under r.key file))))
     c.self.view_is
-    (copied_of _ _ l.last l.last_len c.in-Some.number c.in-Some.at c.args.offset _ (take c.len_of-len.result c.deref.result.now) _
+    (copied_of _ _ l.last l.last_len c.in-Some.number c.in-Some.at c.args.offset _ (take c.message_len-len.result c.deref.result.now) _
     c.self.invariant.ends
-    (rw (c.len_of-len.ensures.value, c.deref.ensures.value) (held_then c.self.inside.held c.in-Some.number _
+    (rw (c.message_len-len.ensures.value, c.deref.ensures.value) (held_then c.self.inside.held c.in-Some.number _
     (sym c.eq.ensures ∙ c.if-eq.true) c.self.invariant.message)) place.number place.at place.in_range
-    (omega (arith, c.read_slice_at.ensures.count, length-take c.len_of-len.result c.deref.result.now, short))
+    (omega (arith, c.read_slice_at.ensures.count, length-take c.message_len-len.result c.deref.result.now, short))
     c.read_slice_at.ensures.copied)
 
 pub returns-in_err-open_chunk_of-clause-accepted :
@@ -51,16 +51,16 @@ pub returns-clause-count : goal.returns-clause-count
 returns-clause-count g c =
     let l = c.self.inside.layout in
     let place = c.in-Some.ensures in
-    let short = c.len_of-len.ensures.short in
-    count_there l.last l.last_len c.args.offset c.self.invariant.short (place.known.0 refl) _ _ _ _ _ (take c.len_of-len.result c.deref-2.result.now)
+    let short = c.message_len-len.ensures.short in
+    count_there l.last l.last_len c.args.offset c.self.invariant.short (place.known.0 refl) _ _ _ _ _ (take c.message_len-len.result c.deref-2.result.now)
     (sym (ap (λ (r : ReaderState). r.len) c.self.view_is)) place.number place.at place.in_range
     (omega (
       arith,
-      length-take c.len_of-len.result c.deref-2.result.now,
+      length-take c.message_len-len.result c.deref-2.result.now,
       ap length c.deref-2.ensures.value,
       c.in_ok-open_chunk_of.ensures.len,
       short,
-      c.len_of-len.ensures.value,
+      c.message_len-len.ensures.value,
     ))
     c.read_slice_at-count.ensures.count
 
@@ -74,7 +74,7 @@ pub returns-clause-opened : goal.returns-clause-opened
 returns-clause-opened g c =
     let l = c.self.inside.layout in
     let place = c.in-Some.ensures in
-    let short = c.len_of-len.ensures.short in
+    let short = c.message_len-len.ensures.short in
     let n = c.read_slice_at-count.result in
     let new = c.open_chunk_of.new.buffer in
     let own = c.self.inside.buffer in
@@ -82,10 +82,10 @@ returns-clause-opened g c =
     take_at new (drop (length new) own.items) own.len (omega (arith, own.ok.0, c.self.invariant.room, c.in_ok-open_chunk_of.ensures.len)) in
     subst (λ (r : ReaderState). IfSome r.file (λ file. take n c.read_slice_at-count.new.buf ≡ take n (drop c.args.offset (plaintext_under r.key file))))
     c.self.view_is
-    (copied_of _ _ l.last l.last_len c.in-Some.number c.in-Some.at c.args.offset _ (take c.len_of-len.result c.deref-2.result.now) _
-    c.self.invariant.ends (rw (c.len_of-len.ensures.value, c.deref-2.ensures.value, items) c.in_ok-open_chunk_of.ensures.message)
+    (copied_of _ _ l.last l.last_len c.in-Some.number c.in-Some.at c.args.offset _ (take c.message_len-len.result c.deref-2.result.now) _
+    c.self.invariant.ends (rw (c.message_len-len.ensures.value, c.deref-2.ensures.value, items) c.in_ok-open_chunk_of.ensures.message)
     place.number place.at place.in_range
-    (omega (arith, c.read_slice_at-count.ensures.count, length-take c.len_of-len.result c.deref-2.result.now, short))
+    (omega (arith, c.read_slice_at-count.ensures.count, length-take c.message_len-len.result c.deref-2.result.now, short))
     c.read_slice_at-count.ensures.copied)
 
 pub returns-in_default-clause-count : goal.returns-in_default-clause-count

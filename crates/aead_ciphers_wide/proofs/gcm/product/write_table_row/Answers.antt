@@ -1,7 +1,7 @@
 use Rattle.std.proofs.Common.{◌-◌, sym, drop, arith, append-nil, length-drop, take_all}
 use Rattle.std.proofs.lemmas.List.{drop_all}
 use Rattle.std.proofs.lemmas.Simd.{put_chunk_is}
-use Rattle.aead_ciphers_wide.proofs.gcm.product.write_row.Goals as goal
+use Rattle.aead_ciphers_wide.proofs.gcm.product.write_table_row.Goals as goal
 
 pub returns : goal.returns
 returns c =

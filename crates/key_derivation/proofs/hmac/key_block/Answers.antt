@@ -3,7 +3,7 @@ use Rattle.std.proofs.lemmas.Bool.{cond_below, cond_above}
 use Rattle.std.proofs.lemmas.List.{drop-replicate, take_at, length-replicate, replicate-append-replicate}
 use Rattle.key_derivation.specs.Hash.{HashFunction}
 use Rattle.key_derivation.specs.Hmac.{block_key, short_key}
-use Rattle.key_derivation.proofs.hmac.block_of.Goals as goal
+use Rattle.key_derivation.proofs.hmac.key_block.Goals as goal
 
 -- the front of zeros after a text
 cut : (short zeros filling rest : List ℕ) (b : ℕ) → zeros ≡ filling ++ rest → length (short ++ filling) ≡ b

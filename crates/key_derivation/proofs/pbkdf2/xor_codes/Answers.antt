@@ -4,7 +4,7 @@ use Rattle.key_derivation.specs.HmacState.{IsKey}
 use Rattle.key_derivation.specs.Pbkdf2.{pbkdf2_u, pbkdf2_sum}
 use Rattle.key_derivation.proofs.HashLemmas.{held_as}
 use Rattle.key_derivation.proofs.Pbkdf2Lemmas.{next_code, next_sum}
-use Rattle.key_derivation.proofs.pbkdf2.add_codes.Goals as goal
+use Rattle.key_derivation.proofs.pbkdf2.xor_codes.Goals as goal
 
 pub codes-init : goal.codes-init
 unfolding pbkdf2_u pbkdf2_sum

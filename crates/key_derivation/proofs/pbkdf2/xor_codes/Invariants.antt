@@ -1,7 +1,7 @@
 use Rattle.std.proofs.Common.{◌≡◌, ℕ, ◌+◌, List}
 use Rattle.key_derivation.specs.HmacState.{IsKey}
 use Rattle.key_derivation.specs.Pbkdf2.{pbkdf2_u, pbkdf2_sum}
-use Rattle.key_derivation.proofs.pbkdf2.add_codes.Given as goal
+use Rattle.key_derivation.proofs.pbkdf2.xor_codes.Given as goal
 
 abbrev pub invariant-codes : goal.invariant-codes
 invariant-codes g l =

@@ -1,7 +1,7 @@
 use Rattle.std.proofs.Common.{◌≡◌, ◌+◌, ◌-◌, ◌<◌, ◌^◌, slice_index, ap, sym, subst, ◌∙◌, arith, rules}
 use Rattle.std.specs.Simd.Lanes.{chunk}
 use Rattle.std.proofs.lemmas.Simd.{get_or-chunk}
-use Rattle.aead_ciphers.proofs.gcm.product.four_words.Goals as goal
+use Rattle.aead_ciphers.proofs.gcm.product.table_words.Goals as goal
 
 pub returns-clause-read : goal.returns-clause-read
 returns-clause-read c = λ j within.

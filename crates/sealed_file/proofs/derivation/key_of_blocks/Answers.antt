@@ -1,7 +1,7 @@
 use Rattle.std.proofs.Common.{[], ◌++◌, arith, refl, replicate, length-append}
 use Rattle.sealed_file.proofs
 use proofs.ChunkLemmas.{put_end, put_next}
-use proofs.derivation.joined.Goals as goal
+use proofs.derivation.key_of_blocks.Goals as goal
 
 pub returns : goal.returns
 returns c =

@@ -1,7 +1,7 @@
 use Rattle.std.proofs.Common.{◌≡◌, ◌+◌, ◌-◌, slice_index, ap, ◌∙◌, arith}
 use Rattle.std.specs.Simd.Lanes.{chunk}
 use Rattle.std.proofs.lemmas.Simd.{get_or-chunk}
-use Rattle.aead_ciphers_wide.proofs.gcm.product.row.Goals as goal
+use Rattle.aead_ciphers_wide.proofs.gcm.product.table_row.Goals as goal
 
 pub returns : goal.returns
 returns c = λ n within.

@@ -2,7 +2,7 @@ use Rattle.std.proofs.Common.{ℕ, ◌<◌, ◌∙◌, ap, reverse, refl, slice_
 use Rattle.std.specs.Int.{to_le_bytes, w128}
 use Rattle.aead_ciphers.proofs.GhashBlocks.{to_be_bytes-from_be_bytes}
 use Rattle.aead_ciphers_wide.proofs.EightPacking.{byte_is}
-use Rattle.aead_ciphers_wide.proofs.gcm.product.bytes_of.Goals as goal
+use Rattle.aead_ciphers_wide.proofs.gcm.product.bytes_of_number.Goals as goal
 
 pub returns : goal.returns
 returns c =
