@@ -1,9 +1,11 @@
 //! Loops over AES, GHASH and AES-GCM, of `aead_ciphers` and of `aead_ciphers_wide`, and over ChaCha20.
 
-use crate::keys::{AeadKey, MASK_LEN, MaskKey, header_algorithm};
+use crate::keys::{MASK_LEN, MaskKey, header_algorithm, key_of_bytes};
 use crate::{NONCE, first_bytes, nonce, set_first_bytes};
+use aead_ciphers::aead::Aad;
+use aead_ciphers::aead::generic::LessSafeKey;
 use aead_ciphers::aead::quic::{self, HeaderProtectionKey};
-use aead_ciphers::aead::{Aad, LessSafeKey};
+use aead_ciphers::aes_gcm::{ExpandedKey, GcmKey};
 use aead_ciphers::gcm::{self, KeyValue, UpdateBlock, UpdateBlocks, Xi};
 use aead_ciphers_base::aes::{
     self, BLOCK_LEN, Block, Counter, EncryptBlock, EncryptCtr32, KeyBytes, Work, ZERO_BLOCK,
@@ -11,16 +13,16 @@ use aead_ciphers_base::aes::{
 use aead_ciphers_base::chacha;
 use aead_ciphers_base::overlapping::Overlapping;
 use aead_ciphers_base::polyfill::slice::as_chunks;
-use aead_ciphers_wide::aead::LessSafeKey as WideKey;
 use aead_ciphers_wide::aead::quic::HeaderProtectionKey as WideHeaderKey;
+use aead_ciphers_wide::aes_gcm::ExpandedKey as WideKey;
 use aead_ciphers_wide::{aes as wide_aes, gcm as wide_gcm};
 
 /// The most bytes that the loop over ChaCha20 encrypts in one turn.
 const CHACHA_MAX_LEN: usize = 1 << 20;
 
 /// The tag with the nonce as AAD, which distinguishes AES-GCM keys.
-fn aead_key_check_value<K: AeadKey>(key: &K) -> u64 {
-    match key.seal(nonce(), Aad::from(&NONCE[..]), &mut []) {
+fn aead_key_check_value<K: GcmKey>(key: &LessSafeKey<K>) -> u64 {
+    match key.seal_in_place_separate_tag(nonce(), Aad::from(&NONCE[..]), &mut []) {
         Ok(tag) => first_bytes(tag.as_ref()),
         Err(_) => 0,
     }
@@ -138,13 +140,13 @@ pub extern "C" fn bench_wide_update_blocks(times: u64, key: &[u8], buffer: &mut 
 }
 
 /// Seals the buffer in place in each turn.
-fn loop_seal<K: AeadKey>(times: u64, key: &[u8], buffer: &mut [u8]) -> u64 {
-    let Ok(key) = K::from_bytes(key) else {
+fn loop_seal<K: GcmKey>(times: u64, key: &[u8], buffer: &mut [u8]) -> u64 {
+    let Ok(key) = key_of_bytes::<K>(key) else {
         return 0
     };
     let mut last = 0;
     for _ in 0..times {
-        if let Ok(tag) = key.seal(nonce(), Aad::empty(), buffer) {
+        if let Ok(tag) = key.seal_in_place_separate_tag(nonce(), Aad::empty(), buffer) {
             last = first_bytes(tag.as_ref());
         }
     }
@@ -154,7 +156,7 @@ fn loop_seal<K: AeadKey>(times: u64, key: &[u8], buffer: &mut [u8]) -> u64 {
 /// `loop_seal` under a `LessSafeKey` of `aead_ciphers`.
 #[unsafe(no_mangle)]
 pub extern "C" fn bench_seal(times: u64, key: &[u8], buffer: &mut [u8]) -> u64 {
-    loop_seal::<LessSafeKey>(times, key, buffer)
+    loop_seal::<ExpandedKey>(times, key, buffer)
 }
 
 /// `loop_seal` under a `LessSafeKey` of `aead_ciphers_wide`.
@@ -164,13 +166,13 @@ pub extern "C" fn bench_wide_seal(times: u64, key: &[u8], buffer: &mut [u8]) -> 
 }
 
 /// Seals no bytes in each turn, with the buffer as the AAD.
-fn loop_authenticate<K: AeadKey>(times: u64, key: &[u8], buffer: &[u8]) -> u64 {
-    let Ok(key) = K::from_bytes(key) else {
+fn loop_authenticate<K: GcmKey>(times: u64, key: &[u8], buffer: &[u8]) -> u64 {
+    let Ok(key) = key_of_bytes::<K>(key) else {
         return 0
     };
     let mut last = 0;
     for _ in 0..times {
-        if let Ok(tag) = key.seal(nonce(), Aad::from(buffer), &mut []) {
+        if let Ok(tag) = key.seal_in_place_separate_tag(nonce(), Aad::from(buffer), &mut []) {
             last = first_bytes(tag.as_ref());
         }
     }
@@ -180,7 +182,7 @@ fn loop_authenticate<K: AeadKey>(times: u64, key: &[u8], buffer: &[u8]) -> u64 {
 /// `loop_authenticate` under a `LessSafeKey` of `aead_ciphers`.
 #[unsafe(no_mangle)]
 pub extern "C" fn bench_authenticate(times: u64, key: &[u8], buffer: &mut [u8]) -> u64 {
-    loop_authenticate::<LessSafeKey>(times, key, buffer)
+    loop_authenticate::<ExpandedKey>(times, key, buffer)
 }
 
 /// `loop_authenticate` under a `LessSafeKey` of `aead_ciphers_wide`.
@@ -193,20 +195,22 @@ pub extern "C" fn bench_wide_authenticate(times: u64, key: &[u8], buffer: &mut [
 ///
 /// Opening replaces the buffer by the plaintext, whose encryption is the bytes that were in the buffer before. So two tags
 /// alternate.
-fn loop_open<K: AeadKey>(times: u64, key: &[u8], buffer: &mut [u8]) -> u64 {
-    let Ok(key) = K::from_bytes(key) else {
+fn loop_open<K: GcmKey>(times: u64, key: &[u8], buffer: &mut [u8]) -> u64 {
+    let Ok(key) = key_of_bytes::<K>(key) else {
         return 0
     };
-    let Ok(odd) = key.seal(nonce(), Aad::empty(), buffer) else {
+    let Ok(odd) = key.seal_in_place_separate_tag(nonce(), Aad::empty(), buffer) else {
         return 0;
     };
-    let Ok(even) = key.seal(nonce(), Aad::empty(), buffer) else {
+    let Ok(even) = key.seal_in_place_separate_tag(nonce(), Aad::empty(), buffer) else {
         return 0;
     };
     let mut answer = first_bytes(even.as_ref());
     for turn in 0..times {
         let tag = if turn % 2 == 0 { even } else { odd };
-        answer = answer.wrapping_add(u64::from(key.open(nonce(), tag, buffer)));
+        let opened =
+            key.open_in_place_separate_tag_to_front(nonce(), Aad::empty(), tag, buffer, 0..);
+        answer = answer.wrapping_add(u64::from(opened.is_ok()));
     }
     answer
 }
@@ -214,7 +218,7 @@ fn loop_open<K: AeadKey>(times: u64, key: &[u8], buffer: &mut [u8]) -> u64 {
 /// `loop_open` under a `LessSafeKey` of `aead_ciphers`.
 #[unsafe(no_mangle)]
 pub extern "C" fn bench_open(times: u64, key: &[u8], buffer: &mut [u8]) -> u64 {
-    loop_open::<LessSafeKey>(times, key, buffer)
+    loop_open::<ExpandedKey>(times, key, buffer)
 }
 
 /// `loop_open` under a `LessSafeKey` of `aead_ciphers_wide`.
@@ -269,13 +273,13 @@ pub extern "C" fn bench_wide_aes_key(times: u64, key: &[u8], buffer: &mut [u8]) 
 }
 
 /// Creates an AES-GCM key from the bytes of the buffer in each turn.
-fn loop_make_key<K: AeadKey>(times: u64, key: &[u8], buffer: &mut [u8]) -> u64 {
-    let Ok(mut last) = K::from_bytes(key) else {
+fn loop_make_key<K: GcmKey>(times: u64, key: &[u8], buffer: &mut [u8]) -> u64 {
+    let Ok(mut last) = key_of_bytes::<K>(key) else {
         return 0
     };
     for turn in 0..times {
         set_first_bytes(buffer, turn);
-        if let Ok(made) = K::from_bytes(buffer) {
+        if let Ok(made) = key_of_bytes::<K>(buffer) {
             last = made;
         }
     }
@@ -285,7 +289,7 @@ fn loop_make_key<K: AeadKey>(times: u64, key: &[u8], buffer: &mut [u8]) -> u64 {
 /// `loop_make_key` of `aead_ciphers`.
 #[unsafe(no_mangle)]
 pub extern "C" fn bench_make_key(times: u64, key: &[u8], buffer: &mut [u8]) -> u64 {
-    loop_make_key::<LessSafeKey>(times, key, buffer)
+    loop_make_key::<ExpandedKey>(times, key, buffer)
 }
 
 /// `loop_make_key` of `aead_ciphers_wide`.
@@ -295,8 +299,8 @@ pub extern "C" fn bench_wide_less_safe_key(times: u64, key: &[u8], buffer: &mut 
 }
 
 /// Clones an AES-GCM key in each turn: first the key of the buffer, and then the last clone.
-fn loop_clone<K: AeadKey + Clone>(times: u64, key: &[u8], buffer: &[u8]) -> u64 {
-    let (Ok(even), Ok(odd)) = (K::from_bytes(key), K::from_bytes(buffer)) else {
+fn loop_clone<K: GcmKey>(times: u64, key: &[u8], buffer: &[u8]) -> u64 {
+    let (Ok(even), Ok(odd)) = (key_of_bytes::<K>(key), key_of_bytes::<K>(buffer)) else {
         return 0;
     };
     let (mut even, mut odd) = (even, odd);
@@ -315,7 +319,7 @@ fn loop_clone<K: AeadKey + Clone>(times: u64, key: &[u8], buffer: &[u8]) -> u64 
 /// `loop_clone` of a `LessSafeKey` of `aead_ciphers`.
 #[unsafe(no_mangle)]
 pub extern "C" fn bench_clone(times: u64, key: &[u8], buffer: &mut [u8]) -> u64 {
-    loop_clone::<LessSafeKey>(times, key, buffer)
+    loop_clone::<ExpandedKey>(times, key, buffer)
 }
 
 /// `loop_clone` of a `LessSafeKey` of `aead_ciphers_wide`.

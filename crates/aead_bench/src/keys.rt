@@ -1,11 +1,10 @@
-//! What the loops do with an AES-GCM key, of either crate.
+//! Keys for the loops, of either crate.
 
+use aead_ciphers::aead::generic::LessSafeKey;
 use aead_ciphers::aead::quic::{self, HeaderProtectionKey};
-use aead_ciphers::aead::{
-    AES_128_GCM, AES_256_GCM, Aad, Algorithm, LessSafeKey, Nonce, Tag, UnboundKey, Unspecified,
-};
+use aead_ciphers::aead::{AES_128_GCM, AES_256_GCM, Algorithm, UnboundKey, Unspecified};
+use aead_ciphers::aes_gcm::GcmKey;
 use aead_ciphers_base::aes::AES_128_KEY_LEN;
-use aead_ciphers_wide::aead::LessSafeKey as WideKey;
 use aead_ciphers_wide::aead::quic::HeaderProtectionKey as WideHeaderKey;
 
 /// The bytes of a header protection mask.
@@ -27,46 +26,9 @@ pub(crate) fn header_algorithm(key: &[u8]) -> &'static quic::Algorithm {
     }
 }
 
-/// An AES-GCM key whose calls take the nonce.
-pub(crate) trait AeadKey: Drop {
-    /// Makes a key of 16 or 32 bytes.
-    fn from_bytes(key: &[u8]) -> Result<Self, Unspecified>;
-
-    /// Seals in place.
-    fn seal(&self, nonce: Nonce, aad: Aad<'_>, in_out: &mut [u8]) -> Result<Tag, Unspecified>;
-
-    /// Opens in place, and returns whether the tag is right.
-    fn open(&self, nonce: Nonce, tag: Tag, in_out: &mut [u8]) -> bool;
-}
-
-impl AeadKey for LessSafeKey {
-    fn from_bytes(key: &[u8]) -> Result<Self, Unspecified> {
-        Ok(LessSafeKey::new(UnboundKey::new(algorithm_of_key(key), key)?))
-    }
-
-    fn seal(&self, nonce: Nonce, aad: Aad<'_>, in_out: &mut [u8]) -> Result<Tag, Unspecified> {
-        self.seal_in_place_separate_tag(nonce, aad, in_out)
-    }
-
-    fn open(&self, nonce: Nonce, tag: Tag, in_out: &mut [u8]) -> bool {
-        self.open_in_place_separate_tag(nonce, Aad::empty(), tag, in_out, 0..)
-            .is_ok()
-    }
-}
-
-impl AeadKey for WideKey {
-    fn from_bytes(key: &[u8]) -> Result<Self, Unspecified> {
-        WideKey::new(algorithm_of_key(key), key)
-    }
-
-    fn seal(&self, nonce: Nonce, aad: Aad<'_>, in_out: &mut [u8]) -> Result<Tag, Unspecified> {
-        self.seal_in_place_separate_tag(nonce, aad, in_out)
-    }
-
-    fn open(&self, nonce: Nonce, tag: Tag, in_out: &mut [u8]) -> bool {
-        self.open_in_place_separate_tag_to_front(nonce, Aad::empty(), tag, in_out, 0..)
-            .is_ok()
-    }
+/// Makes a key of 16 or 32 bytes.
+pub(crate) fn key_of_bytes<K: GcmKey>(bytes: &[u8]) -> Result<LessSafeKey<K>, Unspecified> {
+    Ok(LessSafeKey::new(UnboundKey::new(algorithm_of_key(bytes), bytes)?))
 }
 
 /// A key of header protection.

@@ -1,10 +1,10 @@
 //! Loops over packets of QUIC.
 
-use crate::keys::algorithm_of_key;
+use crate::keys::key_of_bytes;
 use crate::{NONCE, first_bytes};
 use aead_ciphers::aead::nonce_of;
 use aead_ciphers_base::aes::AES_128_KEY_LEN;
-use aead_ciphers_wide::aead::LessSafeKey;
+use aead_ciphers_wide::aes_gcm::ExpandedKey;
 use quic_packets::{
     Failures, FixedBit, KeyError, Keys, Packet, ReceiveError, Receiver, Sender, Space, Suite,
     Version, packet_at,
@@ -136,7 +136,7 @@ pub extern "C" fn bench_send_and_receive(times: u64, key: &[u8], buffer: &mut [u
 /// Seals what `bench_send` sends with a `LessSafeKey` of `aead_ciphers_wide`, without header protection.
 #[unsafe(no_mangle)]
 pub extern "C" fn bench_seal_packet(times: u64, key: &[u8], buffer: &mut [u8]) -> u64 {
-    let Ok(key) = LessSafeKey::new(algorithm_of_key(key), key) else {
+    let Ok(key) = key_of_bytes::<ExpandedKey>(key) else {
         return 0
     };
     for number in 0..times.min(1 << 32) {
@@ -155,7 +155,7 @@ pub extern "C" fn bench_seal_packet(times: u64, key: &[u8], buffer: &mut [u8]) -
 /// Seals and opens what `bench_send_and_receive` sends and receives with a `LessSafeKey` of `aead_ciphers_wide`, without header protection.
 #[unsafe(no_mangle)]
 pub extern "C" fn bench_seal_and_open_packet(times: u64, key: &[u8], buffer: &mut [u8]) -> u64 {
-    let Ok(key) = LessSafeKey::new(algorithm_of_key(key), key) else {
+    let Ok(key) = key_of_bytes::<ExpandedKey>(key) else {
         return 0
     };
     for number in 0..times.min(1 << 32) {

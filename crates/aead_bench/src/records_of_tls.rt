@@ -1,9 +1,9 @@
 //! Loops over records of TLS 1.3.
 
-use crate::keys::algorithm_of_key;
+use crate::keys::{algorithm_of_key, key_of_bytes};
 use crate::{NONCE, first_bytes};
 use aead_ciphers::aead::nonce_of;
-use aead_ciphers_wide::aead::LessSafeKey;
+use aead_ciphers_wide::aes_gcm::ExpandedKey;
 use records::{ContentType, HEADER_LEN, RecordKey};
 
 /// The bytes of a record that are not its content: the header, the type and the tag.
@@ -78,7 +78,7 @@ fn frame(buffer: &mut [u8], len: usize) {
 #[unsafe(no_mangle)]
 pub extern "C" fn bench_seal_framed(times: u64, key: &[u8], buffer: &mut [u8]) -> u64 {
     let (Ok(key), Some(len)) = (
-        LessSafeKey::new(algorithm_of_key(key), key),
+        key_of_bytes::<ExpandedKey>(key),
         content_len(buffer),
     ) else {
         return 0;
@@ -99,7 +99,7 @@ pub extern "C" fn bench_seal_framed(times: u64, key: &[u8], buffer: &mut [u8]) -
 #[unsafe(no_mangle)]
 pub extern "C" fn bench_seal_and_open_framed(times: u64, key: &[u8], buffer: &mut [u8]) -> u64 {
     let (Ok(key), Some(len)) = (
-        LessSafeKey::new(algorithm_of_key(key), key),
+        key_of_bytes::<ExpandedKey>(key),
         content_len(buffer),
     ) else {
         return 0;

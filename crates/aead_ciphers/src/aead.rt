@@ -16,15 +16,29 @@ mod sealing_key;
 mod unbound_key;
 mod xored_sequence;
 
+use crate::aes_gcm::ExpandedKey;
 pub use aead_ciphers_base::error::Unspecified;
 pub use aead_ciphers_base::values::{Aad, MAX_TAG_LEN, NONCE_LEN, Nonce, Tag};
 pub use algorithm::{AES_128_GCM, AES_256_GCM, Algorithm};
 pub use bound_key::BoundKey;
 pub use counter_sequence::CounterSequence;
 pub use in_out::InOut;
-pub use less_safe_key::LessSafeKey;
 pub use nonce_sequence::NonceSequence;
-pub use opening_key::OpeningKey;
-pub use sealing_key::SealingKey;
 pub use unbound_key::UnboundKey;
 pub use xored_sequence::{XoredSequence, nonce_of};
+
+/// The same keys over any expanded AES-GCM key.
+pub mod generic {
+    pub use super::less_safe_key::LessSafeKey;
+    pub use super::opening_key::OpeningKey;
+    pub use super::sealing_key::SealingKey;
+}
+
+/// `generic::LessSafeKey` over the ciphers of these libraries.
+pub type LessSafeKey = less_safe_key::LessSafeKey<ExpandedKey>;
+
+/// `generic::SealingKey` over the ciphers of these libraries.
+pub type SealingKey<N> = sealing_key::SealingKey<ExpandedKey, N>;
+
+/// `generic::OpeningKey` over the ciphers of these libraries.
+pub type OpeningKey<N> = opening_key::OpeningKey<ExpandedKey, N>;

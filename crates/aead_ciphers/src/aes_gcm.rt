@@ -5,57 +5,33 @@
 
 ghost use Rattle.std.specs.Prelude.{◌≡◌, ◌↔◌, length, IsOk, IfOk, OnOk, OnErr, is_ok};
 ghost use Rattle.aead_ciphers_base.specs.Aes.{aes as aes_cipher};
-ghost use Rattle.aead_ciphers_base.specs.KeyBytes.{key_bytes};
 ghost use Rattle.aead_ciphers_base.specs.Values.{aad_bytes};
-ghost use Rattle.aead_ciphers_base.specs.Work.{Adds, CanAdd};
 ghost use Rattle.aead_ciphers.specs.Gcm.{CanOpen, CanSeal, Fits, OpenWork, SealWork, Opened, gcm_encrypted, gcm_tag};
 
 mod counter_mode;
 mod expanded;
+mod gcm_key;
 mod hash;
+mod key;
 mod opening;
 mod sealing;
 
-use aead_ciphers_base::aes::{KeyBytes, Work};
+use aead_ciphers_base::aes::Work;
 use aead_ciphers_base::error::Unspecified;
 use aead_ciphers_base::values::{Aad, Nonce, Tag};
-pub(crate) use expanded::ExpandedKey;
+pub use expanded::ExpandedKey;
+pub use gcm_key::GcmKey;
 pub use opening::{open_to_with, open_with};
 pub use sealing::seal_with;
-use std::marker::Model;
 use std::ops::RangeFrom;
 
-/// An AES-GCM key: the expanded AES key and its hash subkey.
-#[derive(Clone, Drop)]
-pub struct Key {
-    expanded: ExpandedKey,
+/// The same key over any expanded AES-GCM key.
+pub mod generic {
+    pub use super::key::Key;
 }
 
-impl Model for Key {
-    ghost use Rattle.std.specs.Prelude.{ℕ, List};
-    ghost use Rattle.aead_ciphers.specs.ExpandedKey.{bytes_of, IsExpanded};
-
-    ghost Value = { List ℕ };
-
-    ghost view = { λ key. bytes_of key.expanded };
-
-    ghost invariant = { λ key. IsExpanded key.expanded };
-}
-
-impl Key {
-    /// Expands a key of 16 or 32 bytes, and computes its hash subkey by one cipher block (SP 800-38D section 7.1
-    /// step 1). Never fails.
-    pub fn new(bytes: KeyBytes<'_>, work: &mut Work) -> Result<Key, Unspecified>
-        requires { CanAdd work.old 1 0 }
-        ensures accepted { IsOk result }
-        ensures made { IfOk result (λ key. key ≡ key_bytes bytes.entry) }
-        ensures worked { Adds work.old work.new 1 0 }
-    {
-        let mut expanded = ExpandedKey::zeros();
-        expanded.expand(bytes, work);
-        Ok(Key { expanded })
-    }
-}
+/// `generic::Key` over the ciphers of these libraries.
+pub type Key = key::Key<ExpandedKey>;
 
 /// Encrypts `in_out` in place, and returns the 16-byte tag of the ciphertext and `aad` (SP 800-38D section 7.1).
 ///
@@ -63,8 +39,8 @@ impl Key {
 ///
 /// Fails with `Unspecified`, and leaves `in_out` unchanged, if it is longer than 2^36 - 32 bytes or `aad` is 2^61 bytes
 /// or longer (SP 800-38D section 5.2.1.1).
-pub fn seal(
-    key: &Key,
+pub fn seal<K: GcmKey>(
+    key: &generic::Key<K>,
     nonce: Nonce,
     aad: Aad<'_>,
     in_out: &mut [u8],
@@ -91,8 +67,8 @@ pub fn seal(
 /// - `src.start` is greater than `in_out.len()`.
 /// - The lengths exceed the limits of `seal`.
 /// - `received_tag` is not the tag of the ciphertext and `aad`.
-pub fn open(
-    key: &Key,
+pub fn open<K: GcmKey>(
+    key: &generic::Key<K>,
     nonce: Nonce,
     aad: Aad<'_>,
     received_tag: Tag,

@@ -10,7 +10,9 @@ ghost use Rattle.aead_ciphers.specs.Gcm.{Fits, hashed, sealing_products, gcm_tag
 ghost use Rattle.aead_ciphers.specs.Ghash.{IsBlock, ghash, xor_blocks};
 ghost use Rattle.aead_ciphers.specs.Laws.{EachPlace, OpensAgain};
 
-use crate::aead::{NonceSequence, SealingKey};
+use crate::aead::NonceSequence;
+use crate::aead::generic::SealingKey;
+use crate::aes_gcm::GcmKey;
 use aead_ciphers_base::aes::Block;
 use aead_ciphers_base::values::NONCE_LEN;
 
@@ -36,7 +38,10 @@ pub fn round_trip(key: &[u8], nonces: &[[u8; NONCE_LEN]], aads: &[Vec<u8>], mess
 /// No nonce is used twice (SP 800-38D section 8): whatever calls take a sealing key from one state to another, the
 /// nonces that they consume differ from each other and from all that were consumed before.
 #[tactic(auto, using(crate::proofs::FreshLemmas::fresh_calls))]
-pub fn no_nonce_twice<N: NonceSequence>(first: &SealingKey<N>, last: &SealingKey<N>)
+pub fn no_nonce_twice<K: GcmKey, N: NonceSequence>(
+    first: &SealingKey<K, N>,
+    last: &SealingKey<K, N>,
+)
     ensures { (calls : List (List ℕ × List ℕ)) (answers : List (List ℕ × Bool))
         → SealCalls N.spent N.is_closed first.now last.now calls answers
         → GrewFresh (N.spent first.now.sequence) (N.spent last.now.sequence) }

@@ -4,7 +4,9 @@ ghost use Rattle.std.specs.List.{AllZip};
 ghost use Rattle.aead_ciphers.specs.FreshNonces.{GrewFresh};
 ghost use Rattle.aead_ciphers.specs.Runs.{JobStep, Runs};
 
-use crate::aead::{Aad, NonceSequence, OpeningKey, SealingKey};
+use crate::aead::generic::{OpeningKey, SealingKey};
+use crate::aead::{Aad, NonceSequence};
+use crate::aes_gcm::GcmKey;
 
 /// What a job does.
 #[derive(Clone, Copy, PartialEq, Eq, Debug)]
@@ -57,10 +59,10 @@ impl Job {
         }
     }
 
-    fn perform<S: NonceSequence, O: NonceSequence>(
+    fn perform<K: GcmKey, L: GcmKey, S: NonceSequence, O: NonceSequence>(
         &mut self,
-        sealing: &mut SealingKey<S>,
-        opening: &mut OpeningKey<O>,
+        sealing: &mut SealingKey<K, S>,
+        opening: &mut OpeningKey<L, O>,
     )
         ensures performed { JobStep S.spent S.is_closed S.origin O.spent O.is_closed O.origin
             (sealing.old, opening.old) (sealing.new, opening.new) self.old self.new }
@@ -103,9 +105,9 @@ impl Job {
 /// }
 /// ```
 #[tactic(auto, using(crate::proofs::FreshLemmas::fresh_run))]
-pub fn run<S: NonceSequence, O: NonceSequence>(
-    sealing: &mut SealingKey<S>,
-    opening: &mut OpeningKey<O>,
+pub fn run<K: GcmKey, L: GcmKey, S: NonceSequence, O: NonceSequence>(
+    sealing: &mut SealingKey<K, S>,
+    opening: &mut OpeningKey<L, O>,
     jobs: &mut [Job],
 )
     ensures ran { Runs (JobStep S.spent S.is_closed S.origin O.spent O.is_closed O.origin)

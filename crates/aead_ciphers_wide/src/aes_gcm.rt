@@ -16,7 +16,7 @@ mod pieces;
 
 use crate::aes::Width;
 use crate::{aes, gcm};
-use aead_ciphers::aes_gcm::{open_to_with, open_with, seal_with};
+use aead_ciphers::aes_gcm::{GcmKey, open_to_with, open_with, seal_with};
 use aead_ciphers::gcm::fits;
 use aead_ciphers_base::aes::{EncryptBlock, KeyBytes, Work, ZERO_BLOCK};
 use aead_ciphers_base::error::Unspecified;
@@ -47,33 +47,7 @@ pub struct ExpandedKey {
 }
 
 impl ExpandedKey {
-    /// Returns a value whose fields are all zeros. It is not a key until `expand` is called.
-    #[inline(always)]
-    pub fn zeros() -> Self
-        ensures { result ≡ zero_key }
-    {
-        ExpandedKey {
-            planes: [[0; 16]; 15],
-            rounds: 0,
-            width: 0,
-            round_keys: [[0; 16]; 15],
-            products: [0; 512],
-            squares: [0; 512],
-        }
-    }
-
-    /// Overwrites the fields with the expansion of a key of 16 or 32 bytes, whose hash subkey is computed by one cipher
-    /// block (SP 800-38D section 7.1 step 1), with planes of 128 bits.
-    pub fn expand(&mut self, bytes: KeyBytes<'_>, work: &mut Work)
-        requires { CanAdd work.old 1 0 }
-        ensures expanded { IsExpanded self.new }
-        ensures bytes { bytes_of self.new ≡ key_bytes bytes.entry }
-        ensures worked { Adds work.old work.new 1 0 }
-    {
-        self.expand_with_width(bytes, Width::Bits128, work);
-    }
-
-    /// Does the same as `expand`, with planes of this width.
+    /// Does the same as `expand`, whose planes have 128 bits, with planes of this width.
     pub fn expand_with_width(&mut self, bytes: KeyBytes<'_>, width: Width, work: &mut Work)
         requires { CanAdd work.old 1 0 }
         ensures expanded { IsExpanded self.new }
@@ -111,53 +85,7 @@ impl ExpandedKey {
         gcm::KeyRef::new(&self.products, &self.squares)
     }
 
-    /// Seals under this key, like `aead_ciphers::aes_gcm::seal`.
-    pub fn seal(
-        &self,
-        nonce: Nonce,
-        aad: Aad<'_>,
-        in_out: &mut [u8],
-        work: &mut Work,
-    ) -> Result<Tag, Unspecified>
-        requires key { IsExpanded self.now }
-        requires sums { CanSeal work.old (length (aad_bytes aad)) (length in_out.old) }
-        ensures accepted { IsOk result ↔ Fits (length (aad_bytes aad.entry)) (length in_out.old) }
-        ensures ciphertext { OnOk result
-            (in_out.new ≡ gcm_encrypted (aes_cipher (bytes_of self.now)) nonce in_out.old) }
-        ensures tag { IfOk result
-            (λ t. t ≡ gcm_tag (aes_cipher (bytes_of self.now)) nonce
-            (aad_bytes aad.entry) in_out.new) }
-        ensures refused { OnErr result (in_out.new ≡ in_out.old) }
-        ensures worked { SealWork (length (aad_bytes aad.entry)) (length in_out.old) result
-            work.old work.new }
-    {
-        let aes = self.aes();
-        let gcm = self.gcm();
-        seal_with(&aes, &gcm, nonce, aad, in_out, work)
-    }
-
-    /// Opens under this key, like `aead_ciphers::aes_gcm::open`, and returns the length of the plaintext in bytes.
-    pub fn open_to_front(
-        &self,
-        nonce: Nonce,
-        aad: Aad<'_>,
-        tag: Tag,
-        in_out: &mut [u8],
-        ciphertext: RangeFrom<usize>,
-    ) -> Result<usize, Unspecified>
-        requires { IsExpanded self.now }
-        ensures opened { Opened (aes_cipher (bytes_of self.now)) nonce (aad_bytes aad.entry) tag
-            ciphertext.start in_out.old (is_ok result) in_out.new }
-        ensures count { IfOk result (λ n. n ≡ length in_out.old - ciphertext.start) }
-        ensures refused { OnErr result (in_out.new ≡ in_out.old) }
-    {
-        let aes = self.aes();
-        let gcm = self.gcm();
-        let mut work = Work::new();
-        open_with(&aes, &gcm, nonce, aad, tag, in_out, ciphertext, &mut work)
-    }
-
-    /// Like `open_to_front`, but the tag is the last 16 bytes of `in_out`, which are unchanged. Also fails if `in_out` is
+    /// Opens as `open` does, but the tag is the last 16 bytes of `in_out`, which are unchanged. Also fails if `in_out` is
     /// shorter than 16 bytes. The tag is not read before the lengths are checked, so a length from C may be false.
     pub fn open_within_to_front(
         &self,
@@ -178,48 +106,10 @@ impl ExpandedKey {
         match before_tag.len().checked_sub(ciphertext_and_tag.start) {
             Some(len) if fits(aad.as_ref().len(), len) => {
                 let tag = Tag::from(*tag);
-                self.open_to_front(nonce, aad, tag, before_tag, ciphertext_and_tag)
+                self.open(nonce, aad, tag, before_tag, ciphertext_and_tag, &mut Work::new())
             }
             _ => Err(Unspecified),
         }
-    }
-
-    /// Opens `ciphertext`, and writes the plaintext to `out`, which must be equally long.
-    ///
-    /// # Errors
-    ///
-    /// Fails with `Unspecified`, and leaves `out` unchanged, if the lengths exceed the limits of `seal` or if
-    /// `tag` is not the tag of the ciphertext and `aad`.
-    pub fn open_to(
-        &self,
-        nonce: Nonce,
-        aad: Aad<'_>,
-        tag: Tag,
-        ciphertext: &[u8],
-        out: &mut [u8],
-    ) -> Result<(), Unspecified>
-        requires key { IsExpanded self.now }
-        requires lengths { length out.old ≡ length ciphertext.now }
-        ensures accepted { IsOk result
-            ↔ (Fits (length (aad_bytes aad.entry)) (length ciphertext.now)
-            × (tag ≡ gcm_tag (aes_cipher (bytes_of self.now)) nonce
-            (aad_bytes aad.entry) ciphertext.now)) }
-        ensures plaintext { OnOk result
-            (out.new ≡ gcm_decrypted (aes_cipher (bytes_of self.now)) nonce ciphertext.now) }
-        ensures refused { OnErr result (out.new ≡ out.old) }
-    {
-        let aes = self.aes();
-        let gcm = self.gcm();
-        open_to_with(
-            &aes,
-            &gcm,
-            nonce,
-            aad,
-            tag,
-            ciphertext,
-            out,
-            &mut Work::new(),
-        )
     }
 
     /// Begins a message that is sealed in pieces, of which none is sealed yet.
@@ -291,5 +181,86 @@ impl ExpandedKey {
         ensures { result ≡ aes_mask (bytes_of self.now) sample }
     {
         aes::BlockKeyRef::new(&self.round_keys, self.rounds as usize).new_mask(sample)
+    }
+}
+
+impl GcmKey for ExpandedKey {
+    ghost use Rattle.std.specs.Prelude.{◌≡◌};
+    ghost use Rattle.std.proofs.Common.{rules};
+    ghost use Rattle.aead_ciphers_wide.specs.ExpandedKey as specs;
+
+    ghost bytes_of = { specs.bytes_of };
+
+    ghost is_expanded = { specs.IsExpanded };
+
+    ghost zero_key = { specs.zero_key };
+
+    ghost clones = { λ key clone is. Prim.search rules };
+
+    ghost always_clones = { λ key. Prim.search rules };
+
+    #[inline(always)]
+    fn zeros() -> Self {
+        ExpandedKey {
+            planes: [[0; 16]; 15],
+            rounds: 0,
+            width: 0,
+            round_keys: [[0; 16]; 15],
+            products: [0; 512],
+            squares: [0; 512],
+        }
+    }
+
+    fn expand(&mut self, bytes: KeyBytes<'_>, work: &mut Work) {
+        self.expand_with_width(bytes, Width::Bits128, work);
+    }
+
+    fn seal(
+        &self,
+        nonce: Nonce,
+        aad: Aad<'_>,
+        in_out: &mut [u8],
+        work: &mut Work,
+    ) -> Result<Tag, Unspecified> {
+        let aes = self.aes();
+        let gcm = self.gcm();
+        seal_with(&aes, &gcm, nonce, aad, in_out, work)
+    }
+
+    fn open(
+        &self,
+        nonce: Nonce,
+        aad: Aad<'_>,
+        received_tag: Tag,
+        in_out: &mut [u8],
+        src: RangeFrom<usize>,
+        work: &mut Work,
+    ) -> Result<usize, Unspecified> {
+        let aes = self.aes();
+        let gcm = self.gcm();
+        open_with(&aes, &gcm, nonce, aad, received_tag, in_out, src, work)
+    }
+
+    fn open_to(
+        &self,
+        nonce: Nonce,
+        aad: Aad<'_>,
+        received_tag: Tag,
+        ciphertext: &[u8],
+        out: &mut [u8],
+        work: &mut Work,
+    ) -> Result<(), Unspecified> {
+        let aes = self.aes();
+        let gcm = self.gcm();
+        open_to_with(
+            &aes,
+            &gcm,
+            nonce,
+            aad,
+            received_tag,
+            ciphertext,
+            out,
+            work,
+        )
     }
 }

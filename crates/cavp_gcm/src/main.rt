@@ -77,9 +77,9 @@ fn algorithm_of_key(key: &[u8]) -> &'static Algorithm {
     }
 }
 
-/// Creates the key of `aead_ciphers`.
-fn less_safe_key(bytes: &[u8]) -> Result<LessSafeKey, NoVector> {
-    Ok(LessSafeKey::new(UnboundKey::new(algorithm_of_key(bytes), bytes)?))
+/// Keeps the bytes of a key, which each crate's key expands.
+fn unbound_key(bytes: &[u8]) -> Result<UnboundKey, NoVector> {
+    Ok(UnboundKey::new(algorithm_of_key(bytes), bytes)?)
 }
 
 /// What is said of a vector for which the two keys don't make the same.
@@ -97,12 +97,16 @@ fn seal_by_both(
 ) -> Result<String, NoVector> {
     let nonce = Nonce::try_assume_unique_for_key(iv)?;
     let mut sealed = in_out.to_vec(alloc)?;
-    let wide_tag = WideKey::new(algorithm_of_key(key), key)?.seal_in_place_separate_tag(
+    let wide_tag = WideKey::new(unbound_key(key)?).seal_in_place_separate_tag(
         Nonce::try_assume_unique_for_key(iv)?,
         Aad::from(aad),
         &mut sealed,
     )?;
-    let tag = less_safe_key(key)?.seal_in_place_separate_tag(nonce, Aad::from(aad), in_out)?;
+    let tag = LessSafeKey::new(unbound_key(key)?).seal_in_place_separate_tag(
+        nonce,
+        Aad::from(aad),
+        in_out,
+    )?;
     if wide_tag.as_ref() != tag.as_ref() || sealed.as_slice() != &*in_out {
         return differs(alloc);
     }
@@ -122,7 +126,7 @@ fn open_by_both(
 ) -> Result<String, NoVector> {
     let tag = Tag::try_from(tag)?;
     let mut opened = in_out.to_vec(alloc)?;
-    let by_wide = WideKey::new(algorithm_of_key(key), key)?.open_in_place_separate_tag_to_front(
+    let by_wide = WideKey::new(unbound_key(key)?).open_in_place_separate_tag_to_front(
         Nonce::try_assume_unique_for_key(iv)?,
         Aad::from(aad),
         tag,
@@ -130,7 +134,7 @@ fn open_by_both(
         0..,
     );
     let nonce = Nonce::try_assume_unique_for_key(iv)?;
-    let by_other = less_safe_key(key)?.open_in_place_separate_tag_to_front(
+    let by_other = LessSafeKey::new(unbound_key(key)?).open_in_place_separate_tag_to_front(
         nonce,
         Aad::from(aad),
         tag,

@@ -7,6 +7,7 @@ ghost use Rattle.deerlapse.specs.AesKey.{IsAesKeyLen};
 
 use crate::key::{deerlapse_key_open, deerlapse_key_seal, expand};
 use aead_ciphers::aead::{MAX_TAG_LEN, NONCE_LEN};
+use aead_ciphers::aes_gcm::GcmKey;
 use aead_ciphers_wide::aes::Width;
 use aead_ciphers_wide::aes_gcm::ExpandedKey;
 

@@ -8,6 +8,7 @@ ghost use Rattle.aead_ciphers_wide.specs.Width.{width_bits};
 ghost use Rattle.deerlapse.specs.AesKey.{ExpandsKey, HasRounds, IsKeyOrNone};
 
 use aead_ciphers::aead::{Aad, MAX_TAG_LEN, NONCE_LEN, Nonce, Tag, Unspecified};
+use aead_ciphers::aes_gcm::GcmKey;
 use aead_ciphers::gcm::fits;
 use aead_ciphers_base::aes::{KeyBytes, Work};
 use aead_ciphers_wide::aes::Width;
@@ -150,7 +151,7 @@ pub extern "C" fn deerlapse_key_open_separate_tag(
         Some(len) if has_rounds(key) && fits(aad.len(), len) => {
             let nonce = Nonce::assume_unique_for_key(*nonce);
             let tag = Tag::from(*tag);
-            key.open_to_front(nonce, Aad::from(aad), tag, in_out, start..)
+            key.open(nonce, Aad::from(aad), tag, in_out, start.., &mut Work::new())
                 .is_ok()
         }
         _ => false,

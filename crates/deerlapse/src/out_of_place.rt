@@ -8,7 +8,9 @@ ghost use Rattle.deerlapse.specs.AesKey.{HasRounds, IsKeyOrNone};
 
 use crate::key::{deerlapse_key_seal, has_rounds};
 use aead_ciphers::aead::{Aad, MAX_TAG_LEN, NONCE_LEN, Nonce, Tag};
+use aead_ciphers::aes_gcm::GcmKey;
 use aead_ciphers::gcm::fits;
+use aead_ciphers_base::aes::Work;
 use aead_ciphers_wide::aes_gcm::ExpandedKey;
 
 /// Does the same as `deerlapse_key_seal`, but leaves the message unchanged and writes the ciphertext to `out`.
@@ -64,7 +66,7 @@ pub extern "C" fn deerlapse_key_open_to_sized(
         return false;
     }
     let nonce = Nonce::assume_unique_for_key(*nonce);
-    key.open_to(nonce, Aad::from(aad), Tag::from(*tag), ciphertext, out)
+    key.open_to(nonce, Aad::from(aad), Tag::from(*tag), ciphertext, out, &mut Work::new())
         .is_ok()
 }
 

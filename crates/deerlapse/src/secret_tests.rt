@@ -21,6 +21,7 @@ use crate::record_key::{
 };
 use crate::tests::{accepted, equal, is_zero, same};
 use crate::traffic_key::TrafficKey;
+use aead_ciphers::aes_gcm::GcmKey;
 use aead_ciphers_wide::aes::Width;
 use aead_ciphers_wide::aes_gcm::ExpandedKey;
 use aead_vectors::rfc_8448::{RECORDS, Record};

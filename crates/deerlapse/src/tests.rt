@@ -23,6 +23,7 @@ use crate::sealer::{
     deerlapse_sealer_init, deerlapse_sealer_init_256, deerlapse_sealer_next, deerlapse_sealer_seal,
     deerlapse_sealer_wipe,
 };
+use aead_ciphers::aes_gcm::GcmKey;
 use aead_ciphers_wide::aes::Width;
 use aead_ciphers_wide::aes_gcm::{ExpandedKey, SealState};
 use aead_vectors::gcm_spec::{CASES, Case};

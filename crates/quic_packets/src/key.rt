@@ -14,7 +14,7 @@ use crate::keys::keys_of;
 use crate::packet::{NUMBERS_END, payload_len};
 use crate::receive_error::ReceiveError;
 use crate::send_error::SendError;
-use aead_ciphers::aead::{Aad, Algorithm, MAX_TAG_LEN, NONCE_LEN, Nonce, Tag, nonce_of};
+use aead_ciphers::aead::{Aad, Algorithm, MAX_TAG_LEN, NONCE_LEN, Nonce, Tag, UnboundKey, nonce_of};
 use aead_ciphers::gcm::fits;
 use aead_ciphers_wide::aead::LessSafeKey;
 use key_derivation::quic::QuicSecret;
@@ -57,8 +57,11 @@ impl PacketKey {
         ensures made { IfOk result (λ made. made
             ≡ record { algorithm = algorithm.now; bytes = key.now; iv = iv }) }
     {
-        match LessSafeKey::new(algorithm, key) {
-            Ok(key) => Ok(PacketKey { key, iv }),
+        match UnboundKey::new(algorithm, key) {
+            Ok(key) => Ok(PacketKey {
+                key: LessSafeKey::new(key),
+                iv,
+            }),
             Err(_) => Err(KeyError::KeyLength),
         }
     }

@@ -10,7 +10,7 @@ use crate::derivation::{commitment, derived_key};
 use crate::error::FileError;
 use crate::key::FileKey;
 use crate::random::FileRandom;
-use aead_ciphers::aead::AES_256_GCM;
+use aead_ciphers::aead::{AES_256_GCM, UnboundKey};
 use aead_ciphers_base::aes::AES_256_KEY_LEN;
 use aead_ciphers_base::bb;
 use aead_ciphers_wide::aead::LessSafeKey;
@@ -112,8 +112,8 @@ impl ChunkCipher {
 fn aead_key(bytes: &[u8; AES_256_KEY_LEN]) -> LessSafeKey
     ensures { result.bytes ≡ bytes.now }
 {
-    match LessSafeKey::new(&AES_256_GCM, bytes) {
-        Ok(key) => key,
+    match UnboundKey::new(&AES_256_GCM, bytes) {
+        Ok(key) => LessSafeKey::new(key),
         Err(_) => unreachable!(),
     }
 }

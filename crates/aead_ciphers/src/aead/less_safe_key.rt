@@ -4,6 +4,8 @@ ghost use Rattle.std.specs.Prelude.{◌≡◌, ◌+◌, ◌-◌, ◌≤◌, ◌�
 ghost use Rattle.std.specs.Borrow.{sem};
 ghost use Rattle.aead_ciphers_base.specs.Values.{aad_bytes};
 ghost use Rattle.aead_ciphers_base.specs.Aes.{aes};
+ghost use Rattle.aead_ciphers.specs.Algorithm.{key_len};
+ghost use Rattle.aead_ciphers.specs.Packet.{PacketFits, sealed_packet, OpenedPacket};
 ghost use Rattle.aead_ciphers.specs.Gcm.{Fits, gcm_encrypted, gcm_decrypted, gcm_tag, gcm_sealed, Opened, OpenedAttached};
 ghost use Rattle.aead_ciphers.specs.Lending.{LendsFront, lent_buffer};
 
@@ -11,7 +13,7 @@ use crate::aead::algorithm::Algorithm;
 use crate::aead::in_out::InOut;
 use crate::aead::lend::lend_plaintext;
 use crate::aead::unbound_key::UnboundKey;
-use crate::aes_gcm::ExpandedKey;
+use crate::aes_gcm::GcmKey;
 use aead_ciphers_base::aes::Work;
 use aead_ciphers_base::error::Unspecified;
 use aead_ciphers_base::values::{Aad, MAX_TAG_LEN, Nonce, Tag};
@@ -45,24 +47,23 @@ use std::ops::RangeFrom;
 /// }
 /// ```
 #[derive(Drop)]
-pub struct LessSafeKey {
-    key: ExpandedKey,
+pub struct LessSafeKey<K: GcmKey> {
+    key: K,
     algorithm: &'static Algorithm,
 }
 
-impl Model for LessSafeKey {
+impl<K: GcmKey> Model for LessSafeKey<K> {
     ghost use Rattle.aead_ciphers.specs.AeadKey.{AeadKey};
-    ghost use Rattle.aead_ciphers.specs.ExpandedKey.{bytes_of, IsExpanded};
 
     ghost Value = { AeadKey };
 
-    ghost view = { λ key. record { algorithm = key.algorithm.now; bytes = bytes_of key.key } };
+    ghost view = { λ key. record { algorithm = key.algorithm.now; bytes = K.bytes_of key.key } };
 
-    ghost invariant = { λ key. IsExpanded key.key };
+    ghost invariant = { λ key. K.is_expanded key.key };
 }
 
 /// Copies the expanded key and its algorithm. Cloning allocates no memory and always succeeds.
-impl Clone for LessSafeKey {
+impl<K: GcmKey> Clone for LessSafeKey<K> {
     ghost use Rattle.std.specs.Prelude.{◌≡◌, ⊤};
 
     ghost is_clone = { λ key clone. clone ≡ key };
@@ -77,18 +78,27 @@ impl Clone for LessSafeKey {
     }
 }
 
-impl LessSafeKey {
+impl<K: GcmKey> LessSafeKey<K> {
     /// Creates a key for nonces of the caller's choice. The round keys (FIPS 197 section 5.2) and the hash subkey
     /// (SP 800-38D section 7.1 step 1) are computed here, once.
     pub fn new(key: UnboundKey) -> Self
         ensures { result ≡ key }
     {
         let mut made = LessSafeKey {
-            key: ExpandedKey::zeros(),
+            key: K::zeros(),
             algorithm: key.algorithm(),
         };
         made.key.expand(key.key_bytes(), &mut Work::new());
         made
+    }
+
+    /// Creates a key from its expanded key, whose bytes must be as long as a key of `algorithm`.
+    pub fn from_expanded(algorithm: &'static Algorithm, key: K) -> Self
+        requires expanded { K.is_expanded key }
+        requires lengths { length (K.bytes_of key) ≡ key_len algorithm.now }
+        ensures { result ≡ record { algorithm = algorithm.now; bytes = K.bytes_of key } }
+    {
+        LessSafeKey { key, algorithm }
     }
 
     /// Returns the algorithm of the key.
@@ -178,6 +188,34 @@ impl LessSafeKey {
                 Err(error)
             }
         }
+    }
+
+    /// Seals a packet in place (SP 800-38D algorithm 4): a header of `header_len` bytes, which is the AAD, then the
+    /// plaintext, then 16 bytes of room, to which the tag is written.
+    ///
+    /// # Errors
+    ///
+    /// Fails with `Unspecified`, and leaves the packet unchanged, if it is shorter than `header_len + 16` bytes, or
+    /// else if the lengths exceed the limits of `seal_in_place_separate_tag`.
+    pub fn seal_packet_in_place(
+        &self,
+        nonce: Nonce,
+        packet: &mut [u8],
+        header_len: usize,
+    ) -> Result<(), Unspecified>
+        ensures accepted { IsOk result ↔ PacketFits header_len (length packet.old) }
+        ensures sealed { OnOk result (packet.new ≡ sealed_packet self.now.bytes nonce header_len packet.old) }
+        ensures refused { OnErr result (packet.new ≡ packet.old) }
+    {
+        if packet.len() < MAX_TAG_LEN || packet.len() - MAX_TAG_LEN < header_len {
+            return Err(Unspecified);
+        }
+        let (header, body) = packet.split_at_mut(header_len);
+        let message_len = body.len() - MAX_TAG_LEN;
+        let (message, tag_bytes) = body.split_at_mut(message_len);
+        let tag = self.seal_in_place_separate_tag(nonce, Aad::from(&*header), message)?;
+        tag_bytes.copy_from_slice(tag.as_ref());
+        Ok(())
     }
 
     /// Opens a ciphertext in place with a separate tag, and returns the plaintext (SP 800-38D algorithm 5).
@@ -320,9 +358,58 @@ impl LessSafeKey {
     {
         self.open_within_to_front(nonce, aad, in_out, 0..)
     }
+
+    /// Opens `ciphertext` with a separate tag, and writes the plaintext to `out`, which must be equally long (SP 800-38D
+    /// algorithm 5).
+    ///
+    /// # Errors
+    ///
+    /// Fails with `Unspecified`, and leaves `out` unchanged, if the lengths exceed the limits of
+    /// `seal_in_place_separate_tag`, or if `tag` is not the tag of the ciphertext and `aad`.
+    pub fn open_to(
+        &self,
+        nonce: Nonce,
+        aad: Aad<'_>,
+        tag: Tag,
+        ciphertext: &[u8],
+        out: &mut [u8],
+    ) -> Result<(), Unspecified>
+        requires { length out.old ≡ length ciphertext.now }
+        ensures accepted { IsOk result ↔ (Fits (length (aad_bytes aad.entry)) (length ciphertext.now)
+            × (tag ≡ gcm_tag (aes self.now.bytes) nonce (aad_bytes aad.entry) ciphertext.now)) }
+        ensures plaintext { OnOk result (out.new ≡ gcm_decrypted (aes self.now.bytes) nonce ciphertext.now) }
+        ensures refused { OnErr result (out.new ≡ out.old) }
+    {
+        self.key
+            .open_to(nonce, aad, tag, ciphertext, out, &mut Work::new())
+    }
+
+    /// Opens a packet in place, and returns the length of the plaintext in bytes (SP 800-38D algorithm 5). The packet is
+    /// one that `seal_packet_in_place` seals: the plaintext replaces the ciphertext, and header and tag are unchanged.
+    ///
+    /// # Errors
+    ///
+    /// Fails with `Unspecified`, and leaves the packet unchanged, if it is shorter than `header_len + 16` bytes, if the
+    /// lengths exceed the limits of `seal_in_place_separate_tag`, or if the tag is not that of the ciphertext and the
+    /// header.
+    pub fn open_packet_in_place_after_header(
+        &self,
+        nonce: Nonce,
+        packet: &mut [u8],
+        header_len: usize,
+    ) -> Result<usize, Unspecified>
+        ensures opened { OpenedPacket self.now.bytes nonce header_len packet.old (is_ok result) packet.new }
+        ensures count { IfOk result (λ n. n ≡ length packet.old - 16 - header_len) }
+        ensures refused { OnErr result (packet.new ≡ packet.old) }
+    {
+        let Some((header, body)) = packet.split_at_mut_checked(header_len) else {
+            return Err(Unspecified);
+        };
+        self.open_within_to_front(nonce, Aad::from(&*header), body, 0..)
+    }
 }
 
-impl fmt::Debug for LessSafeKey {
+impl<K: GcmKey> fmt::Debug for LessSafeKey<K> {
     ghost use Rattle.std.specs.Prelude.{Some, codes};
     ghost use Rattle.aead_ciphers.specs.AeadKey.{key_debug_text};
 

@@ -9,7 +9,9 @@ ghost use Rattle.aead_ciphers.specs.Lending.{LendsFront, lent_buffer};
 ghost use Rattle.aead_ciphers.specs.NonceSequence.{UnderNext};
 
 use crate::aead::lend::lend_plaintext;
-use crate::aead::{Aad, Algorithm, BoundKey, LessSafeKey, NonceSequence, UnboundKey, Unspecified};
+use crate::aead::{Aad, Algorithm, BoundKey, NonceSequence, UnboundKey, Unspecified};
+use crate::aead::less_safe_key::LessSafeKey;
+use crate::aes_gcm::GcmKey;
 use std::fmt;
 use std::marker::Model;
 use std::ops::RangeFrom;
@@ -32,12 +34,12 @@ use std::ops::RangeFrom;
 /// key.open_in_place_to_front(Aad::from(aad), message)
 /// ```
 #[derive(Drop)]
-pub struct OpeningKey<N> {
-    key: LessSafeKey,
+pub struct OpeningKey<K: GcmKey, N> {
+    key: LessSafeKey<K>,
     nonce_sequence: N,
 }
 
-impl<N> Model for OpeningKey<N> {
+impl<K: GcmKey, N> Model for OpeningKey<K, N> {
     ghost use Rattle.aead_ciphers.specs.BoundState.{BoundState};
 
     ghost Value = { BoundState N };
@@ -45,7 +47,7 @@ impl<N> Model for OpeningKey<N> {
     ghost view = { λ bound. record { key = bound.key; sequence = bound.nonce_sequence } };
 }
 
-impl<N> fmt::Debug for OpeningKey<N> {
+impl<K: GcmKey, N> fmt::Debug for OpeningKey<K, N> {
     ghost use Rattle.std.specs.Prelude.{Some, codes};
     ghost use Rattle.aead_ciphers.specs.AeadKey.{key_debug_text};
 
@@ -57,7 +59,7 @@ impl<N> fmt::Debug for OpeningKey<N> {
     }
 }
 
-impl<N: NonceSequence> BoundKey<N> for OpeningKey<N> {
+impl<K: GcmKey, N: NonceSequence> BoundKey<N> for OpeningKey<K, N> {
     ghost key = { λ bound. bound.key };
 
     ghost sequence = { λ bound. bound.sequence };
@@ -74,7 +76,7 @@ impl<N: NonceSequence> BoundKey<N> for OpeningKey<N> {
     }
 }
 
-impl<N: NonceSequence> OpeningKey<N> {
+impl<K: GcmKey, N: NonceSequence> OpeningKey<K, N> {
     /// Like `open_within`, but returns the length of the plaintext in bytes. The plaintext is at the front of `in_out`.
     /// ring has no such method.
     #[tactic(auto, using(crate::proofs::NextNonce::no_nonce_open))]

@@ -8,8 +8,10 @@ ghost use Rattle.aead_ciphers.specs.NonceSequence.{UnderNext};
 ghost use Rattle.aead_ciphers.specs.Steps.{with_tag};
 
 use crate::aead::{
-    Aad, Algorithm, BoundKey, InOut, LessSafeKey, NonceSequence, Tag, UnboundKey, Unspecified,
+    Aad, Algorithm, BoundKey, InOut, NonceSequence, Tag, UnboundKey, Unspecified,
 };
+use crate::aead::less_safe_key::LessSafeKey;
+use crate::aes_gcm::GcmKey;
 use std::fmt;
 use std::marker::Model;
 
@@ -37,12 +39,12 @@ use std::marker::Model;
 /// }
 /// ```
 #[derive(Drop)]
-pub struct SealingKey<N> {
-    key: LessSafeKey,
+pub struct SealingKey<K: GcmKey, N> {
+    key: LessSafeKey<K>,
     nonce_sequence: N,
 }
 
-impl<N> Model for SealingKey<N> {
+impl<K: GcmKey, N> Model for SealingKey<K, N> {
     ghost use Rattle.aead_ciphers.specs.BoundState.{BoundState};
 
     ghost Value = { BoundState N };
@@ -50,7 +52,7 @@ impl<N> Model for SealingKey<N> {
     ghost view = { λ bound. record { key = bound.key; sequence = bound.nonce_sequence } };
 }
 
-impl<N> fmt::Debug for SealingKey<N> {
+impl<K: GcmKey, N> fmt::Debug for SealingKey<K, N> {
     ghost use Rattle.std.specs.Prelude.{Some, codes};
     ghost use Rattle.aead_ciphers.specs.AeadKey.{key_debug_text};
 
@@ -62,7 +64,7 @@ impl<N> fmt::Debug for SealingKey<N> {
     }
 }
 
-impl<N: NonceSequence> BoundKey<N> for SealingKey<N> {
+impl<K: GcmKey, N: NonceSequence> BoundKey<N> for SealingKey<K, N> {
     ghost key = { λ bound. bound.key };
 
     ghost sequence = { λ bound. bound.sequence };
@@ -79,7 +81,7 @@ impl<N: NonceSequence> BoundKey<N> for SealingKey<N> {
     }
 }
 
-impl<N: NonceSequence> SealingKey<N> {
+impl<K: GcmKey, N: NonceSequence> SealingKey<K, N> {
     /// Encrypts the bytes of `in_out` in place under the next nonce, and appends the tag of the ciphertext and `aad`
     /// (SP 800-38D algorithm 4).
     ///

@@ -6,9 +6,7 @@ ghost use Rattle.aead_ciphers_tests.specs.FirstBitFlipped.{first_bit_flipped, le
 use crate::tests::checks::{holds, same};
 use aead_ciphers::aes_gcm::{open_with, seal_with};
 use aead_ciphers::gcm::{UpdateBlock, UpdateBlocks, Xi};
-use aead_ciphers_base::aes::{
-    BLOCK_LEN, Block, Counter, EncryptBlock, EncryptCtr32, Overlapping, Work, ZERO_BLOCK,
-};
+use aead_ciphers_base::aes::{BLOCK_LEN, Block, EncryptBlock, Work};
 use aead_ciphers_base::bb;
 use aead_ciphers_base::polyfill::slice::AsChunks;
 use aead_ciphers_base::values::{Aad, Nonce, Tag};
@@ -16,6 +14,7 @@ use aead_vectors::words::Words;
 use std::alloc::Global;
 use std::process::Abort;
 use std::test::Fail;
+use test_support::one_block::OneBlock;
 
 /// The block of the polynomial 1 (SP 800-38D section 6.3).
 const UNIT_BLOCK: Block = [0x80, 0, 0, 0, 0, 0, 0, 0, 0, 0, 0, 0, 0, 0, 0, 0];
@@ -23,6 +22,11 @@ const UNIT_BLOCK: Block = [0x80, 0, 0, 0, 0, 0, 0, 0, 0, 0, 0, 0, 0, 0, 0, 0];
 /// The cipher that flips the first bit of a block, and so encrypts the zero block to the unit block.
 #[derive(Drop)]
 struct FlipFirstBit;
+
+/// The same in counter mode.
+const CIPHER: OneBlock<'_, FlipFirstBit> = OneBlock {
+    cipher: &FlipFirstBit,
+};
 
 impl EncryptBlock for FlipFirstBit {
     ghost cipher = { λ _ block. first_bit_flipped block };
@@ -32,26 +36,6 @@ impl EncryptBlock for FlipFirstBit {
     fn encrypt_block(&self, block: Block, work: &mut Work) -> Block {
         work.add_blocks(1);
         bb::xor_16(block, UNIT_BLOCK)
-    }
-}
-
-impl EncryptCtr32 for FlipFirstBit {
-    #[tactic(auto, using(aead_ciphers_base::proofs::CounterModeLemmas::encrypts_all))]
-    fn ctr32_encrypt_within(
-        &self,
-        in_out: Overlapping<'_>,
-        counter: &mut Counter,
-        work: &mut Work,
-    ) {
-        let Overlapping { in_out, start } = in_out;
-        for i in 0..(in_out.len() - start) / BLOCK_LEN {
-            let at = BLOCK_LEN * i;
-            let from = start + at;
-            let mut block = ZERO_BLOCK;
-            block.copy_from_slice(&in_out[from..from + BLOCK_LEN]);
-            let output = self.encrypt_iv_xor_block(counter.increment(), block, work);
-            in_out[at..at + BLOCK_LEN].copy_from_slice(&output);
-        }
     }
 }
 
@@ -100,7 +84,7 @@ fn seals(
 ) -> Result<Tag, Fail> {
     let aad = Aad::from(aad);
     let mut work = Work::new();
-    let tag = seal_with(&FlipFirstBit, &XorOfBlocks, nonce(), aad, buffer, &mut work)?;
+    let tag = seal_with(&CIPHER, &XorOfBlocks, nonce(), aad, buffer, &mut work)?;
     same(rt, buffer, ciphertext, "the ciphertext");
     same(rt, tag.as_ref(), &wanted, "the tag");
     Ok(tag)
@@ -110,7 +94,7 @@ fn opens(rt: &impl Abort, aad: &[u8], tag: Tag, buffer: &mut [u8], start: usize)
     let aad = Aad::from(aad);
     let mut work = Work::new();
     open_with(
-        &FlipFirstBit,
+        &CIPHER,
         &XorOfBlocks,
         nonce(),
         aad,

@@ -82,17 +82,17 @@ pub returns-in-Some-clause-count : goal.returns-in-Some-clause-count
 returns-in-Some-clause-count c =
     let parts = rw c.in_ok-in_out.ensures.ok_part at c.split_last_chunk_mut.ensures.cases in
     counts c.args.in_out.now c.in_ok-in_out.before_tag.now c.in_ok-in_out.tag.now parts.0 parts.1 parts.2
-    c.args.ciphertext_and_tag.start c.open_to_front.result c.open_to_front.ensures.count
+    c.args.ciphertext_and_tag.start c.«open».result c.«open».ensures.count
 
 pub returns-in-Some-clause-refused : goal.returns-in-Some-clause-refused
 returns-in-Some-clause-refused c =
     let parts = rw c.in_ok-in_out.ensures.ok_part at c.split_last_chunk_mut.ensures.cases in
     unchanged c.args.in_out.now c.in_ok-in_out.before_tag.now c.in_ok-in_out.tag.now parts.0 parts.1 parts.2
-    c.open_to_front.new.in_out c.open_to_front.result c.open_to_front.ensures.refused
+    c.«open».new.in_out c.«open».result c.«open».ensures.refused
 
 pub returns-in-Some-clause-opened : goal.returns-in-Some-clause-opened
 returns-in-Some-clause-opened c =
     let parts = rw c.in_ok-in_out.ensures.ok_part at c.split_last_chunk_mut.ensures.cases in
     opens c.args.in_out.now c.in_ok-in_out.before_tag.now c.in_ok-in_out.tag.now parts.0 parts.1 parts.2
-    (aes (bytes_of c.args.self.now)) c.args.nonce (aad_bytes c.args.aad) _ c.args.ciphertext_and_tag.start _ c.open_to_front.new.in_out
-    c.from-tag.ensures c.open_to_front.ensures.opened
+    (aes (bytes_of c.args.self.now)) c.args.nonce (aad_bytes c.args.aad) _ c.args.ciphertext_and_tag.start _ c.«open».new.in_out
+    c.from-tag.ensures c.«open».ensures.opened

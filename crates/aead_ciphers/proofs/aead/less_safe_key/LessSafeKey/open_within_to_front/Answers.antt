@@ -4,4 +4,4 @@ use proofs.LentPlaintext.{attached}
 use proofs.aead.less_safe_key.LessSafeKey.open_within_to_front.Goals as goal
 
 pub returns-clause-opened : goal.returns-clause-opened
-returns-clause-opened c = search (rules, attached)
+returns-clause-opened g c = search (rules, attached)

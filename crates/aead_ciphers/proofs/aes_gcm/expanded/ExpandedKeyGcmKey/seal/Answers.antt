@@ -1,11 +1,12 @@
 use Rattle.std.proofs.Common.{◌≡◌, IfOk, subst}
-use Rattle.aead_ciphers_base.specs.Values.{aad_bytes}
-use Rattle.aead_ciphers_base.specs.Aes.{aes}
+use Rattle.aead_ciphers_base.specs
+use specs.Values.{aad_bytes}
+use specs.Aes.{aes}
 use Rattle.aead_ciphers.specs.Gcm.{gcm_tag}
-use Rattle.aead_ciphers_wide.proofs.aes_gcm.ExpandedKey.seal.Goals as goal
+use Rattle.aead_ciphers.proofs.aes_gcm.expanded.ExpandedKeyGcmKey.seal.Goals as goal
 
 pub returns-clause-tag : goal.returns-clause-tag
 returns-clause-tag c =
     let a = c.args in
     subst (λ key. IfOk c.seal_with.result (λ t. t ≡ gcm_tag (aes key) a.nonce (aad_bytes a.aad) c.seal_with.new.in_out))
-    c.aes-aes.ensures c.seal_with.ensures.tag
+    c.new-aes.ensures c.seal_with.ensures.tag

@@ -3,7 +3,7 @@ use Rattle.aead_ciphers_base.specs
 use specs.Values.{aad_bytes}
 use specs.Aes.{aes}
 use Rattle.aead_ciphers.specs.Gcm.{Opened}
-use Rattle.aead_ciphers.proofs.aes_gcm.expanded.ExpandedKey.open.Goals as goal
+use Rattle.aead_ciphers.proofs.aes_gcm.expanded.ExpandedKeyGcmKey.open.Goals as goal
 
 pub returns-clause-opened : goal.returns-clause-opened
 returns-clause-opened c =

@@ -2,10 +2,10 @@ use Rattle.std.proofs.Common.{is_ok, subst}
 use Rattle.aead_ciphers_base.specs.Values.{aad_bytes}
 use Rattle.aead_ciphers_base.specs.Aes.{aes}
 use Rattle.aead_ciphers.specs.Gcm.{Opened}
-use Rattle.aead_ciphers_wide.proofs.aes_gcm.ExpandedKey.open_to_front.Goals as goal
+use Rattle.aead_ciphers_wide.proofs.aes_gcm.ExpandedKeyGcmKey.open.Goals as goal
 
 pub returns-clause-opened : goal.returns-clause-opened
 returns-clause-opened c =
     let a = c.args in
-    subst (λ key. Opened (aes key) a.nonce (aad_bytes a.aad) a.tag a.ciphertext.start a.in_out.now (is_ok c.open_with.result) c.open_with.new.in_out)
+    subst (λ key. Opened (aes key) a.nonce (aad_bytes a.aad) a.received_tag a.src.start a.in_out.now (is_ok c.open_with.result) c.open_with.new.in_out)
     c.aes-aes.ensures c.open_with.ensures.opened
