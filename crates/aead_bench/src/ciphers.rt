@@ -208,8 +208,13 @@ fn loop_open<K: GcmKey>(times: u64, key: &[u8], buffer: &mut [u8]) -> u64 {
     let mut answer = first_bytes(even.as_ref());
     for turn in 0..times {
         let tag = if turn % 2 == 0 { even } else { odd };
-        let opened =
-            key.open_in_place_separate_tag_to_front(nonce(), Aad::empty(), tag, buffer, 0..);
+        let opened = key.open_in_place_separate_tag_to_front(
+            nonce(),
+            Aad::empty(),
+            tag,
+            buffer,
+            0..,
+        );
         answer = answer.wrapping_add(u64::from(opened.is_ok()));
     }
     answer

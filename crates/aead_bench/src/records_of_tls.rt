@@ -77,10 +77,7 @@ fn frame(buffer: &mut [u8], len: usize) {
 /// Seals what `bench_seal_record` seals with a `LessSafeKey` of `aead_ciphers_wide`.
 #[unsafe(no_mangle)]
 pub extern "C" fn bench_seal_framed(times: u64, key: &[u8], buffer: &mut [u8]) -> u64 {
-    let (Ok(key), Some(len)) = (
-        key_of_bytes::<ExpandedKey>(key),
-        content_len(buffer),
-    ) else {
+    let (Ok(key), Some(len)) = (key_of_bytes::<ExpandedKey>(key), content_len(buffer)) else {
         return 0;
     };
     for number in 0..times {
@@ -98,10 +95,7 @@ pub extern "C" fn bench_seal_framed(times: u64, key: &[u8], buffer: &mut [u8]) -
 /// Seals and opens what `bench_seal_and_open_record` does with a `LessSafeKey` of `aead_ciphers_wide`.
 #[unsafe(no_mangle)]
 pub extern "C" fn bench_seal_and_open_framed(times: u64, key: &[u8], buffer: &mut [u8]) -> u64 {
-    let (Ok(key), Some(len)) = (
-        key_of_bytes::<ExpandedKey>(key),
-        content_len(buffer),
-    ) else {
+    let (Ok(key), Some(len)) = (key_of_bytes::<ExpandedKey>(key), content_len(buffer)) else {
         return 0;
     };
     for number in 0..times {

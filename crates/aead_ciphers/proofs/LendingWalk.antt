@@ -5,6 +5,9 @@
 --     lent_for              the lifetimes and shares of a call that the buffer is lent to
 --     relends, regains      the buffer is lent to the core for a new lifetime, and is back as `lend_plaintext` wants it
 --     lends                 `lend_plaintext` gave the plaintext
+-- The proofs of the calls of generic keys take, after `wired`, the types (K, N) and what each of them owns (LK, LN). Then for
+-- `GcmKey` (g, d), `Clone` (gc, dc) and `NonceSequence` (gn, dn) come the ghost items and the dictionary, and for `Drop` the
+-- dictionary alone (dd). Last come the facts of each (met-k, met-c, met-n, met-d).
 use Rattle.aead_ciphers_base.proofs.WalkNames.{Ura, named, Val, id⊢, Lft, GName, Share, flft, Logic, Item, ‵, ◌⊛◌, raw, some, later, drop, split, fsplit, use1, use2, use3, await, pick, Seq, Goal, yes, Is, shows, MutBor, MutSlice, Room, slice_val, mut_slice_Lawful, peeks}
 use Rattle.std.specs.Prelude.{◌≡◌, ℕ, zero, suc, List}
 use mir.Syntax.{Body, Callee, Opd, Place, seq, call}

@@ -90,18 +90,36 @@ impl Job {
 ///
 /// # Examples
 ///
-/// Two of five jobs succeed, since the sealing key has two nonces. From `crates/aead_ciphers_tests/src/tests/session.rt`:
+/// Two of five jobs succeed, since the sealing key has two nonces, whatever its expanded key is.
+/// From `crates/aead_ciphers_wide_tests/src/tests/session.rt`:
 ///
 /// ```
-/// fn refuses_once_the_nonces_are_spent(rt: HostRuntime) -> Result<(), Fail> {
-///     let mut jobs = Vec::new(rt.alloc());
-///     for i in 0..5u8 {
-///         jobs.push(job(rt.alloc(), Operation::Seal, &[i; 20])?)?;
-///     }
-///     let case = Case::parse(rt.alloc(), CASE_2)?;
-///     run(&mut sealing(&case, 2)?, &mut opening(&case, 0)?, &mut jobs);
-///     sealed_so_many(&rt, &jobs, 2);
+/// fn twice<K: GcmKey>(rt: &impl Abort, alloc: Global, case: &Case) -> Result<(), Fail> {
+///     let mut jobs = five_jobs(alloc)?;
+///     run(
+///         &mut sealing::<K>(case, 2)?,
+///         &mut opening::<K>(case, 0)?,
+///         &mut jobs,
+///     );
+///     sealed_so_many(rt, &jobs, 2);
 ///     Ok(())
+/// }
+/// ```
+///
+/// A caller that runs two lists states that no nonce of either is used twice.
+/// From `crates/aead_ciphers_wide_tests/src/tests/examples/session.rt`:
+///
+/// ```
+/// pub fn run_both<K: GcmKey, L: GcmKey, S: NonceSequence, O: NonceSequence>(
+///     sealing: &mut SealingKey<K, S>,
+///     opening: &mut OpeningKey<L, O>,
+///     first: &mut [Job],
+///     second: &mut [Job],
+/// )
+///     ensures no_nonce_twice { GrewFresh (S.spent sealing.old.sequence) (S.spent sealing.new.sequence) }
+/// {
+///     run(sealing, opening, first);
+///     run(sealing, opening, second);
 /// }
 /// ```
 #[tactic(auto, using(crate::proofs::FreshLemmas::fresh_run))]

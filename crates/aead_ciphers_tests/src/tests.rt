@@ -20,5 +20,4 @@ mod quic;
 mod reference;
 mod refusals;
 mod sequences;
-mod session;
 mod streams;

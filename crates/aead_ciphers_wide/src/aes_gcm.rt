@@ -106,7 +106,14 @@ impl ExpandedKey {
         match before_tag.len().checked_sub(ciphertext_and_tag.start) {
             Some(len) if fits(aad.as_ref().len(), len) => {
                 let tag = Tag::from(*tag);
-                self.open(nonce, aad, tag, before_tag, ciphertext_and_tag, &mut Work::new())
+                self.open(
+                    nonce,
+                    aad,
+                    tag,
+                    before_tag,
+                    ciphertext_and_tag,
+                    &mut Work::new(),
+                )
             }
             _ => Err(Unspecified),
         }
@@ -252,15 +259,6 @@ impl GcmKey for ExpandedKey {
     ) -> Result<(), Unspecified> {
         let aes = self.aes();
         let gcm = self.gcm();
-        open_to_with(
-            &aes,
-            &gcm,
-            nonce,
-            aad,
-            received_tag,
-            ciphertext,
-            out,
-            work,
-        )
+        open_to_with(&aes, &gcm, nonce, aad, received_tag, ciphertext, out, work)
     }
 }

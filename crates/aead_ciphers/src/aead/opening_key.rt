@@ -9,8 +9,8 @@ ghost use Rattle.aead_ciphers.specs.Lending.{LendsFront, lent_buffer};
 ghost use Rattle.aead_ciphers.specs.NonceSequence.{UnderNext};
 
 use crate::aead::lend::lend_plaintext;
-use crate::aead::{Aad, Algorithm, BoundKey, NonceSequence, UnboundKey, Unspecified};
 use crate::aead::less_safe_key::LessSafeKey;
+use crate::aead::{Aad, Algorithm, BoundKey, NonceSequence, UnboundKey, Unspecified};
 use crate::aes_gcm::GcmKey;
 use std::fmt;
 use std::marker::Model;

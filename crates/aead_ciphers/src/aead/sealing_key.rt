@@ -7,10 +7,8 @@ ghost use Rattle.aead_ciphers.specs.Gcm.{gcm_encrypted, gcm_tag, gcm_sealed};
 ghost use Rattle.aead_ciphers.specs.NonceSequence.{UnderNext};
 ghost use Rattle.aead_ciphers.specs.Steps.{with_tag};
 
-use crate::aead::{
-    Aad, Algorithm, BoundKey, InOut, NonceSequence, Tag, UnboundKey, Unspecified,
-};
 use crate::aead::less_safe_key::LessSafeKey;
+use crate::aead::{Aad, Algorithm, BoundKey, InOut, NonceSequence, Tag, UnboundKey, Unspecified};
 use crate::aes_gcm::GcmKey;
 use std::fmt;
 use std::marker::Model;

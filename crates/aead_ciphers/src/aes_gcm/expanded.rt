@@ -88,15 +88,6 @@ impl GcmKey for ExpandedKey {
     ) -> Result<(), Unspecified> {
         let aes = aes::KeyRef::new(&self.round_keys, self.rounds);
         let gcm = gcm::KeyRef::new(&self.multiples);
-        opening::open_to_with(
-            &aes,
-            &gcm,
-            nonce,
-            aad,
-            received_tag,
-            ciphertext,
-            out,
-            work,
-        )
+        opening::open_to_with(&aes, &gcm, nonce, aad, received_tag, ciphertext, out, work)
     }
 }

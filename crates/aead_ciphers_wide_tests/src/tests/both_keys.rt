@@ -1,12 +1,12 @@
 //! Tests that the `LessSafeKey` of this crate, with planes of both widths, and the one of `aead_ciphers` seal to the same bytes,
 //! and that each width opens at each start what was sealed.
 
+use crate::tests::cases::wider_key_of_bytes;
 use crate::tests::checks::{equal, holds, same};
 use aead_ciphers::aead::{
     AES_128_GCM, AES_256_GCM, Aad, Algorithm, LessSafeKey, Nonce, UnboundKey,
 };
 use aead_ciphers_wide::aead::LessSafeKey as WideKey;
-use aead_ciphers_wide::aes::Width;
 use std::alloc::Global;
 use std::ops::Range;
 use std::process::Abort;
@@ -28,8 +28,8 @@ fn both_keys(algorithm: &'static Algorithm) -> Result<BothKeys, Fail> {
     let bytes = &bytes[..algorithm.key_len().min(32)];
     Ok(BothKeys {
         narrow: LessSafeKey::new(UnboundKey::new(algorithm, bytes)?),
-        wide: WideKey::new(algorithm, bytes)?,
-        wider: WideKey::new_with_width(algorithm, bytes, Width::Bits256)?,
+        wide: WideKey::new(UnboundKey::new(algorithm, bytes)?),
+        wider: wider_key_of_bytes(algorithm, bytes)?,
     })
 }
 

@@ -5,6 +5,7 @@ ghost use Rattle.aead_ciphers_wide.specs.ExpandedKey.{IsExpanded};
 use crate::tests::checks::same;
 use crate::tests::examples::pieces;
 use aead_ciphers::aead::{Aad, Nonce};
+use aead_ciphers::aes_gcm::GcmKey;
 use aead_ciphers_base::aes::{KeyBytes, Work};
 use aead_ciphers_wide::aes_gcm::ExpandedKey;
 use aead_vectors::gcm_spec::{CASE_4, Case};

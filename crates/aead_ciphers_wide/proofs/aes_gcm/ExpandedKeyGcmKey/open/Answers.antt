@@ -7,5 +7,6 @@ use Rattle.aead_ciphers_wide.proofs.aes_gcm.ExpandedKeyGcmKey.open.Goals as goal
 pub returns-clause-opened : goal.returns-clause-opened
 returns-clause-opened c =
     let a = c.args in
-    subst (λ key. Opened (aes key) a.nonce (aad_bytes a.aad) a.received_tag a.src.start a.in_out.now (is_ok c.open_with.result) c.open_with.new.in_out)
+    subst (λ key. Opened (aes key) a.nonce (aad_bytes a.aad) a.received_tag a.src.start a.in_out.now
+    (is_ok c.open_with.result) c.open_with.new.in_out)
     c.aes-aes.ensures c.open_with.ensures.opened

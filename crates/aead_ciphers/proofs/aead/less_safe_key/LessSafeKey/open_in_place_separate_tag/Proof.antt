@@ -11,7 +11,8 @@ use proofs.aead.less_safe_key.LessSafeKey.open_in_place_separate_tag as Proofs
 pub open_in_place_separate_tag_spec : {M : Type 1} → Proofs.Statement.statement M
 open_in_place_separate_tag_spec 𝓤 𝓛 𝓜 𝓡 wired K LK g d gc dc dd met-k met-c met-d =
     let inst = Walk.bounded (Walk.a_type ∷ []) (K, tt) (Walk.dcons d (Walk.dcons dc (Walk.dcons dd Walk.dnil))) in
-    let T = Contract.ended K g d gc dc dd in let c = Contract.clauses K g d gc dc dd 𝓛 𝓜.mem 𝓡.returns in let stayed = Walk.dropped T.signature.params T.kept in
+    let T = Contract.ended K g d gc dc dd in let c = Contract.clauses K g d gc dc dd 𝓛 𝓜.mem 𝓡.returns in
+    let stayed = Walk.dropped T.signature.params T.kept in
     let silent = Walk.goes 𝓛 4 T.signature.params T.kept
     (λ _ _ _. refl, (λ _ _ _. refl, (λ _ _ _. refl, (λ _ _ _. refl, (λ _ _ _. refl, (λ _ _ _. refl, tt)))))) in
     Walk.walked 𝓛 T stayed c 𝓜 𝓡 silent (Contract.Key.name inst) (Walk.inst_fn inst Proofs.Code.function)
@@ -32,8 +33,10 @@ open_in_place_separate_tag_spec 𝓤 𝓛 𝓜 𝓡 wired K LK g d gc dc dd met-
     Walk.relends 𝓛 b ! tt (λ α δ. let (κs-lent, qs-lent) = Walk.lent_for 2 4 (α ∷ []) κs qs in
     -- [in_out and its lifetime's token; what is kept; three tokens; self, nonce, aad, tag, range; the premise]
     move ! (3 ∷ 4 ∷ 1 ∷ 5 ∷ 6 ∷ 7 ∷ 8 ∷ 9 ∷ 0 ∷ 10 ∷ 11 ∷ []) $
-    Walk.consults 𝓛 (ToFront.ended K g d gc dc dd) (ToFront.clauses K g d gc dc dd 𝓛 𝓜.mem 𝓡.returns) ! (Walk.table_of 𝓛 𝓜 𝓡) (met 𝓤 𝓛 𝓜 𝓡
-    (Proofs.Code.calls-aead_ciphers::aead::less_safe_key::LessSafeKey::open_in_place_separate_tag_to_front 𝓡.env wired) K LK g d gc dc dd met-k met-c met-d)
+    Walk.consults 𝓛 (ToFront.ended K g d gc dc dd) (ToFront.clauses K g d gc dc dd 𝓛 𝓜.mem 𝓡.returns) !
+    (Walk.table_of 𝓛 𝓜 𝓡) (met 𝓤 𝓛 𝓜 𝓡
+    (Proofs.Code.calls-aead_ciphers::aead::less_safe_key::LessSafeKey::open_in_place_separate_tag_to_front 𝓡.env wired)
+    K LK g d gc dc dd met-k met-c met-d)
     ((κs-lent, qs-lent, bounds, (self, (nonce, (aad, (tag, (Walk.renamed b δ, (range, tt)))))), vals), tt) (Walk.gets ! tt refl)
     (λ v u ws. let new = ws.1.1.1.1.0 in Walk.learns ! (λ opened. Walk.learns ! (λ counted. Walk.heard ! _ (λ refused. let m =
     Walk.length old - range.start in let size = Walk.length-drop range.start old in
@@ -48,6 +51,7 @@ open_in_place_separate_tag_spec 𝓤 𝓛 𝓜 𝓡 wired K LK g d gc dc dd met-
     Walk.tell ! (Walk.lent_plain size u r end opened) $
     Walk.tells ! (Walk.as_lent (Walk.Opened (Walk.aes self.now.bytes) nonce (Walk.aad_bytes aad) tag range.start old) end
     opened) $
-    move ! (1 ∷ 0 ∷ []) $ Walk.says ! $ Walk.nothing ! $ Walk.keep ! (4 ∷ 5 ∷ 2 ∷ 6 ∷ 0 ∷ 7 ∷ 8 ∷ 9 ∷ 10 ∷ 11 ∷ 3 ∷ 1 ∷ []) $
+    move ! (1 ∷ 0 ∷ []) $ Walk.says ! $ Walk.nothing ! $
+    Walk.keep ! (4 ∷ 5 ∷ 2 ∷ 6 ∷ 0 ∷ 7 ∷ 8 ∷ 9 ∷ 10 ∷ 11 ∷ 3 ∷ 1 ∷ []) $
     Walk.ends 𝓛 T stayed c ((κs, qs, bounds, a, vals), tt) w r (tt, (tt, (tt, (tt, (tt, (tt, tt)))))) !
     (tt, (tt, (tt, (tt, (tt, (tt, tt))))))))))))))))

@@ -8,9 +8,11 @@ use proofs.aead.opening_key.OpeningKey.open_within as Proofs
 
 pub open_within_spec : {M : Type 1} → Proofs.Statement.statement M
 open_within_spec 𝓤 𝓛 𝓜 𝓡 wired K N LK LN g d gc dc gn dn dd met-k met-c met-n met-d =
-    let inst = Walk.bounded (Walk.a_type ∷ Walk.a_type ∷ []) (K, (N, tt)) (Walk.dcons d (Walk.dcons dc (Walk.dcons dn (Walk.dcons dd Walk.dnil)))) in
+    let inst = Walk.bounded (Walk.a_type ∷ Walk.a_type ∷ []) (K, (N, tt))
+    (Walk.dcons d (Walk.dcons dc (Walk.dcons dn (Walk.dcons dd Walk.dnil)))) in
     let T = Key.open_within.ended K N g d gc dc gn dn dd in
-    let c = Key.open_within.clauses K N g d gc dc gn dn dd 𝓛 𝓜.mem 𝓡.returns in let key = Walk.plain (λ _. Key.the_row (Walk.param 0 K) (Walk.param 1 N) g gc) in
+    let c = Key.open_within.clauses K N g d gc dc gn dn dd 𝓛 𝓜.mem 𝓡.returns in
+    let key = Walk.plain (λ _. Key.the_row (Walk.param 0 K) (Walk.param 1 N) g gc) in
     let own = Walk.gave_ref (0 ∷ []) tt key in let stayed : Walk.Stays T.signature.params T.kept =
     (own, Walk.dropped (Walk.others T.signature.params) T.kept.1) in
     let rest = Walk.goes 𝓛 5 (Walk.others T.signature.params) T.kept.1
@@ -31,9 +33,11 @@ open_within_spec 𝓤 𝓛 𝓜 𝓡 wired K N LK LN g d gc dc gn dn dd met-k me
     Walk.relends 𝓛 b ! tt (λ α δ. let (κs-lent, qs-lent) = Walk.lent_for 2 5 (α ∷ []) κs qs in
     -- [in_out and its lifetime's token; what is kept; four tokens; self, aad, range; the premise]
     move ! (3 ∷ 4 ∷ 1 ∷ 5 ∷ 6 ∷ 7 ∷ 8 ∷ 0 ∷ 9 ∷ 10 ∷ []) $
-    Walk.consults 𝓛 (Key.open_within_to_front.ended K N g d gc dc gn dn dd) (Key.open_within_to_front.clauses K N g d gc dc gn dn dd 𝓛 𝓜.mem 𝓡.returns) !
+    Walk.consults 𝓛 (Key.open_within_to_front.ended K N g d gc dc gn dn dd)
+    (Key.open_within_to_front.clauses K N g d gc dc gn dn dd 𝓛 𝓜.mem 𝓡.returns) !
     (Walk.table_of 𝓛 𝓜 𝓡) (core_met 𝓤 𝓛 𝓜 𝓡
-    (Proofs.Code.calls-aead_ciphers::aead::opening_key::OpeningKey::open_within_to_front 𝓡.env wired) K N LK LN g d gc dc gn dn dd met-k met-c met-n met-d)
+    (Proofs.Code.calls-aead_ciphers::aead::opening_key::OpeningKey::open_within_to_front 𝓡.env wired)
+    K N LK LN g d gc dc gn dn dd met-k met-c met-n met-d)
     ((κs-lent, qs-lent, bounds, (self, (aad, (Walk.renamed b δ, (range, tt)))), vals), tt) (Walk.gets ! tt refl) (λ v u ws.
     let after = ws.0 in let new = ws.1.1.0 in learns ! (λ call. Walk.heard ! _ (λ counted. let m = Walk.length old - 16 -
     range.start in
