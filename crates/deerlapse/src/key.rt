@@ -151,8 +151,15 @@ pub extern "C" fn deerlapse_key_open_separate_tag(
         Some(len) if has_rounds(key) && fits(aad.len(), len) => {
             let nonce = Nonce::assume_unique_for_key(*nonce);
             let tag = Tag::from(*tag);
-            key.open(nonce, Aad::from(aad), tag, in_out, start.., &mut Work::new())
-                .is_ok()
+            key.open(
+                nonce,
+                Aad::from(aad),
+                tag,
+                in_out,
+                start..,
+                &mut Work::new(),
+            )
+            .is_ok()
         }
         _ => false,
     }

@@ -66,8 +66,15 @@ pub extern "C" fn deerlapse_key_open_to_sized(
         return false;
     }
     let nonce = Nonce::assume_unique_for_key(*nonce);
-    key.open_to(nonce, Aad::from(aad), Tag::from(*tag), ciphertext, out, &mut Work::new())
-        .is_ok()
+    key.open_to(
+        nonce,
+        Aad::from(aad),
+        Tag::from(*tag),
+        ciphertext,
+        out,
+        &mut Work::new(),
+    )
+    .is_ok()
 }
 
 /// Does the same as `deerlapse_key_seal`, but leaves the message unchanged and writes the ciphertext and its tag to `out`: n
