@@ -7933,34 +7933,34 @@ Ldeerlapse_BB30_8:                                ; %join.3
 	add	x29, sp, #192
 	b.hs	Ldeerlapse_BB31_21
 ; %bb.4:                                ; %after.1
-	ldr	x8, [x1]
-	ldr	x10, [x29, #16]
+	ldr	x8, [x29, #16]
+	ldr	x10, [x1]
 	mov	x20, x4
-	add	x11, x0, #1928
+	ldr	w11, [x1, #8]
 	str	x9, [sp, #72]
 	add	x9, x0, #2680
-	stur	x8, [x29, #-64]
-	ldr	w8, [x1, #8]
-	ldr	q0, [x10]
+	ldr	q0, [x8]
+	add	x8, x0, #1928
+	stur	x10, [x29, #-64]
+	stp	x0, x8, [sp, #56]
+	ldr	w10, [x0, #1924]
+	add	x8, x0, #2168
 	mov	x4, x2
 	mov	x23, x6
-	stp	x0, x11, [sp, #56]
-	stur	w8, [x29, #-56]
-	ldr	w8, [x0, #1924]
+	stp	x8, x9, [sp, #40]
+	add	x8, sp, #24
+	add	x0, sp, #92
 	add	x1, sp, #56
 	add	x2, sp, #40
 	mov	x5, x3
 	sub	x3, x29, #64
-	stp	w8, wzr, [sp, #80]
-	add	x8, x0, #2168
-	add	x0, sp, #92
-	stp	x8, x9, [sp, #40]
-	add	x8, sp, #24
 	sub	x6, x29, #80
 	mov	x7, x20
-	stur	q0, [x29, #-80]
-	add	x21, sp, #92
 	stp	xzr, xzr, [sp, #24]
+	stur	w11, [x29, #-56]
+	add	x21, sp, #92
+	stur	q0, [x29, #-80]
+	stp	w10, wzr, [sp, #80]
 	stp	x19, x8, [sp]
 	bl	"_aead_ciphers::aes_gcm::opening::authenticate::<#7bfdf0a6b4753edd>"
 	ldrb	w9, [sp, #92]
@@ -8587,39 +8587,40 @@ ldeerlapse_CPI33_3:
 "_deerlapse::opener::deerlapse_opener_open_number": ; @"deerlapse::opener::deerlapse_opener_open_number"
 ; %bb.0:                                ; %start
 	sub	sp, sp, #208
-	rev	x9, x1
+	rev	x8, x1
 Ldeerlapse_loh74:
-	adrp	x10, ldeerlapse_CPI33_0@PAGE
-	stp	x20, x19, [sp, #176]            ; 16-byte Folded Spill
-	dup.2d	v0, x9
+	adrp	x9, ldeerlapse_CPI33_0@PAGE
+	stp	x24, x23, [sp, #144]            ; 16-byte Folded Spill
+	dup.2d	v0, x8
 Ldeerlapse_loh75:
-	adrp	x9, ldeerlapse_CPI33_1@PAGE
+	adrp	x8, ldeerlapse_CPI33_1@PAGE
 Ldeerlapse_loh76:
-	ldr	q1, [x10, ldeerlapse_CPI33_0@PAGEOFF]
+	ldr	q1, [x9, ldeerlapse_CPI33_0@PAGEOFF]
 Ldeerlapse_loh77:
-	ldr	q2, [x9, ldeerlapse_CPI33_1@PAGEOFF]
+	ldr	q2, [x8, ldeerlapse_CPI33_1@PAGEOFF]
 Ldeerlapse_loh78:
-	adrp	x9, ldeerlapse_CPI33_2@PAGE
+	adrp	x8, ldeerlapse_CPI33_2@PAGE
 Ldeerlapse_loh79:
-	adrp	x10, ldeerlapse_CPI33_3@PAGE
+	adrp	x9, ldeerlapse_CPI33_3@PAGE
 Ldeerlapse_loh80:
-	ldr	q3, [x9, ldeerlapse_CPI33_2@PAGEOFF]
+	ldr	q3, [x8, ldeerlapse_CPI33_2@PAGEOFF]
 Ldeerlapse_loh81:
-	ldr	q4, [x10, ldeerlapse_CPI33_3@PAGEOFF]
-	mov	w8, wzr
+	ldr	q4, [x9, ldeerlapse_CPI33_3@PAGEOFF]
+	ldr	w8, [x0, #1920]
 	ushl.2d	v1, v0, v1
 	ushl.2d	v2, v0, v2
-	subs	x19, x5, #16
+	stp	x22, x21, [sp, #160]            ; 16-byte Folded Spill
 	ushl.2d	v3, v0, v3
 	ushl.2d	v0, v0, v4
 	ldr	s4, [x0, #3208]
-	stp	x24, x23, [sp, #144]            ; 16-byte Folded Spill
+	sub	w9, w8, #10
+	stp	x20, x19, [sp, #176]            ; 16-byte Folded Spill
 	uzp1.4s	v1, v2, v1
 	ldr	s2, [x0, #3212]
 	zip1.8b	v4, v4, v4
 	uzp1.4s	v0, v0, v3
 	ldr	s3, [x0, #3216]
-	stp	x22, x21, [sp, #160]            ; 16-byte Folded Spill
+	cmp	w9, #4
 	zip1.8b	v2, v2, v2
 	stp	x29, x30, [sp, #192]            ; 16-byte Folded Spill
 	add	x29, sp, #192
@@ -8632,65 +8633,60 @@ Ldeerlapse_loh81:
 	uzp1.8b	v0, v0, v0
 	str	d1, [sp, #24]
 	str	s0, [sp, #32]
-	b.lo	Ldeerlapse_BB33_7
-; %bb.1:                                ; %start
-	ldr	w10, [x0, #1920]
-	sub	w9, w10, #15
-	cmn	w9, #5
-	b.lo	Ldeerlapse_BB33_7
+	b.hi	Ldeerlapse_BB33_6
+; %bb.1:                                ; %join.3.i
+	subs	x19, x5, #16
+	b.lo	Ldeerlapse_BB33_6
 ; %bb.2:                                ; %arm.1.i.i
 	subs	x9, x19, x6
 	b.lo	Ldeerlapse_BB33_6
 ; %bb.3:                                ; %arm.8.i.i
-	lsr	x11, x3, #61
-	mov	w8, wzr
-	cbnz	x11, Ldeerlapse_BB33_7
+	lsr	x10, x3, #61
+	cbnz	x10, Ldeerlapse_BB33_6
 ; %bb.4:                                ; %arm.8.i.i
-	mov	x11, #68719476704               ; =0xfffffffe0
-	cmp	x9, x11
-	b.hi	Ldeerlapse_BB33_7
+	mov	x10, #68719476704               ; =0xfffffffe0
+	cmp	x9, x10
+	b.hi	Ldeerlapse_BB33_6
 ; %bb.5:                                ; %join.3.i.i.i.i
-	add	x8, x0, #1928
-	str	x10, [sp, #88]
-	add	x10, x0, #2680
-	stp	x0, x8, [sp, #72]
-	ldr	w8, [x0, #1924]
-	ldr	q0, [x4, x19]
-	mov	x22, x7
-	add	x1, sp, #72
-	mov	x5, x3
-	stp	w8, wzr, [sp, #96]
+	add	x10, x0, #1928
+	str	x8, [sp, #88]
 	add	x8, x0, #2168
-	sub	x0, x29, #84
+	stp	x0, x10, [sp, #72]
+	add	x10, x0, #2680
+	ldr	q0, [x4, x19]
 	stp	x8, x10, [sp, #56]
 	add	x10, sp, #40
+	ldr	w11, [x0, #1924]
 	mov	x8, x2
 	stp	x9, x10, [sp]
 	mov	x10, x6
+	mov	x22, x7
+	sub	x0, x29, #84
+	add	x1, sp, #72
 	add	x2, sp, #56
+	mov	x5, x3
 	add	x3, sp, #24
 	sub	x6, x29, #64
 	mov	x21, x4
 	add	x7, x4, x10
 	mov	x4, x8
-	stur	q0, [x29, #-64]
 	stp	xzr, xzr, [sp, #40]
 	mov	x20, x10
+	stur	q0, [x29, #-64]
 	sub	x23, x29, #84
+	stp	w11, wzr, [sp, #96]
 	bl	"_aead_ciphers::aes_gcm::opening::authenticate::<#7bfdf0a6b4753edd>"
 	ldurb	w8, [x29, #-84]
-	cbz	w8, Ldeerlapse_BB33_8
+	cbz	w8, Ldeerlapse_BB33_7
 Ldeerlapse_BB33_6:
-	mov	w8, wzr
-Ldeerlapse_BB33_7:                                ; %"deerlapse::key::deerlapse_key_open.exit"
+	mov	w0, wzr
 	ldp	x29, x30, [sp, #192]            ; 16-byte Folded Reload
-	mov	w0, w8
 	ldp	x20, x19, [sp, #176]            ; 16-byte Folded Reload
 	ldp	x22, x21, [sp, #160]            ; 16-byte Folded Reload
 	ldp	x24, x23, [sp, #144]            ; 16-byte Folded Reload
 	add	sp, sp, #208
 	ret
-Ldeerlapse_BB33_8:                                ; %arm.4.i
+Ldeerlapse_BB33_7:                                ; %arm.4.i
 	add	x0, sp, #72
 	orr	x1, x23, #0x1
 	add	x5, sp, #40
@@ -8698,9 +8694,15 @@ Ldeerlapse_BB33_8:                                ; %arm.4.i
 	mov	x3, x19
 	mov	x4, x20
 	bl	"_aead_ciphers::aes_gcm::counter_mode::encrypt_within::<#6fa349fe97f872a2>"
-	mov	w8, #1                          ; =0x1
-	str	x0, [x22]
-	b	Ldeerlapse_BB33_7
+	mov	x8, x0
+	mov	w0, #1                          ; =0x1
+	str	x8, [x22]
+	ldp	x29, x30, [sp, #192]            ; 16-byte Folded Reload
+	ldp	x20, x19, [sp, #176]            ; 16-byte Folded Reload
+	ldp	x22, x21, [sp, #160]            ; 16-byte Folded Reload
+	ldp	x24, x23, [sp, #144]            ; 16-byte Folded Reload
+	add	sp, sp, #208
+	ret
 	.loh AdrpLdr	Ldeerlapse_loh79, Ldeerlapse_loh81
 	.loh AdrpLdr	Ldeerlapse_loh78, Ldeerlapse_loh80
 	.loh AdrpAdrp	Ldeerlapse_loh75, Ldeerlapse_loh78
@@ -8749,25 +8751,23 @@ Ldeerlapse_BB34_4:                                ; %then.1
 	mov	x2, x25
 	stp	xzr, xzr, [x29, #-168]
 	bl	"_aead_ciphers_wide::aes_gcm::ExpandedKey::expand_with_width"
-	subs	x23, x23, #16
-	mov	w0, wzr
-	b.lo	Ldeerlapse_BB34_11
-; %bb.5:                                ; %then.1
 	ldr	w9, [sp, #1936]
-	sub	w8, w9, #15
-	cmn	w8, #5
-	b.lo	Ldeerlapse_BB34_11
+	sub	w8, w9, #10
+	cmp	w8, #4
+	b.hi	Ldeerlapse_BB34_10
+; %bb.5:                                ; %join.3.i
+	subs	x23, x23, #16
+	b.lo	Ldeerlapse_BB34_10
 ; %bb.6:                                ; %arm.1.i.i
 	subs	x8, x23, x19
 	b.lo	Ldeerlapse_BB34_10
 ; %bb.7:                                ; %arm.8.i.i
 	lsr	x10, x21, #61
-	mov	w0, wzr
-	cbnz	x10, Ldeerlapse_BB34_11
+	cbnz	x10, Ldeerlapse_BB34_10
 ; %bb.8:                                ; %arm.8.i.i
 	mov	x10, #68719476704               ; =0xfffffffe0
 	cmp	x8, x10
-	b.hi	Ldeerlapse_BB34_11
+	b.hi	Ldeerlapse_BB34_10
 ; %bb.9:                                ; %join.3.i.i.i.i
 	ldr	x10, [x24]
 	ldr	w11, [x24, #8]
@@ -8793,8 +8793,8 @@ Ldeerlapse_BB34_4:                                ; %then.1
 	stp	x9, x10, [x29, #-184]
 	sub	x9, x29, #200
 	sub	x21, x29, #132
-	stur	q0, [x29, #-112]
 	stp	xzr, xzr, [x29, #-200]
+	stur	q0, [x29, #-112]
 	stp	x8, x9, [sp]
 	bl	"_aead_ciphers::aes_gcm::opening::authenticate::<#7bfdf0a6b4753edd>"
 	ldurb	w8, [x29, #-132]
@@ -11288,80 +11288,78 @@ Ldeerlapse_BB60_2:                                ; %"deerlapse::masks::deerlaps
 	.p2align	2
 _deerlapse_key_open:                    ; @deerlapse_key_open
 ; %bb.0:                                ; %start
-	sub	sp, sp, #208
+	ldr	w10, [x0, #1920]
 	cmp	x2, #0
-	mov	w8, #4096                       ; =0x1000
-	stp	x20, x19, [sp, #176]            ; 16-byte Folded Spill
-	csel	x9, x8, xzr, eq
+	mov	w9, #4096                       ; =0x1000
+	csel	x8, x9, xzr, eq
 	cmp	x4, #0
-	stp	x24, x23, [sp, #144]            ; 16-byte Folded Spill
-	csel	x12, x8, xzr, eq
+	sub	w12, w10, #10
+	csel	x11, x9, xzr, eq
+	cmp	w12, #4
+	b.hi	Ldeerlapse_BB61_7
+; %bb.1:                                ; %join.3.i
+	sub	sp, sp, #208
+	stp	x20, x19, [sp, #176]            ; 16-byte Folded Spill
 	subs	x19, x5, #16
-	mov	w8, wzr
+	stp	x24, x23, [sp, #144]            ; 16-byte Folded Spill
 	stp	x22, x21, [sp, #160]            ; 16-byte Folded Spill
 	stp	x29, x30, [sp, #192]            ; 16-byte Folded Spill
 	add	x29, sp, #192
-	b.lo	Ldeerlapse_BB61_7
-; %bb.1:                                ; %start
-	ldr	w11, [x0, #1920]
-	sub	w10, w11, #15
-	cmn	w10, #5
-	b.lo	Ldeerlapse_BB61_7
+	b.lo	Ldeerlapse_BB61_6
 ; %bb.2:                                ; %arm.1.i.i
-	subs	x10, x19, x6
+	subs	x9, x19, x6
 	b.lo	Ldeerlapse_BB61_6
 ; %bb.3:                                ; %arm.8.i.i
-	lsr	x13, x3, #61
-	mov	w8, wzr
-	cbnz	x13, Ldeerlapse_BB61_7
+	lsr	x12, x3, #61
+	cbnz	x12, Ldeerlapse_BB61_6
 ; %bb.4:                                ; %arm.8.i.i
-	mov	x13, #68719476704               ; =0xfffffffe0
-	cmp	x10, x13
-	b.hi	Ldeerlapse_BB61_7
+	mov	x12, #68719476704               ; =0xfffffffe0
+	cmp	x9, x12
+	b.hi	Ldeerlapse_BB61_6
 ; %bb.5:                                ; %join.3.i.i.i.i
-	ldr	x8, [x1]
-	add	x20, x4, x12
-	ldr	w12, [x1, #8]
-	str	x11, [sp, #72]
-	add	x11, x0, #2680
+	add	x20, x4, x11
+	ldr	w11, [x1, #8]
+	ldr	x12, [x1]
+	str	x10, [sp, #72]
+	add	x10, x0, #2168
 	ldr	q0, [x20, x19]
-	stur	x8, [x29, #-64]
-	add	x8, x0, #1928
+	stur	w11, [x29, #-56]
+	add	x11, x0, #1928
 	mov	x22, x7
-	stp	x0, x8, [sp, #56]
-	add	x8, x0, #2168
+	stp	x0, x11, [sp, #56]
+	add	x11, x0, #2680
 	add	x1, sp, #56
-	stp	x8, x11, [sp, #40]
-	add	x8, sp, #24
-	mov	x11, x2
-	stur	w12, [x29, #-56]
+	stp	x10, x11, [sp, #40]
+	add	x10, sp, #24
+	stur	x12, [x29, #-64]
 	ldr	w12, [x0, #1924]
-	add	x0, sp, #92
-	stp	x10, x8, [sp]
+	add	x4, x2, x8
 	mov	x8, x6
+	add	x0, sp, #92
 	add	x2, sp, #40
 	mov	x5, x3
 	sub	x3, x29, #64
-	add	x4, x11, x9
 	sub	x6, x29, #80
 	add	x7, x20, x8
-	stur	q0, [x29, #-80]
-	stp	w12, wzr, [sp, #80]
-	mov	x21, x8
-	add	x23, sp, #92
 	stp	xzr, xzr, [sp, #24]
+	mov	x21, x8
+	stur	q0, [x29, #-80]
+	add	x23, sp, #92
+	stp	w12, wzr, [sp, #80]
+	stp	x9, x10, [sp]
 	bl	"_aead_ciphers::aes_gcm::opening::authenticate::<#7bfdf0a6b4753edd>"
 	ldrb	w8, [sp, #92]
 	cbz	w8, Ldeerlapse_BB61_8
-Ldeerlapse_BB61_6:
-	mov	w8, wzr
-Ldeerlapse_BB61_7:                                ; %"deerlapse::key::deerlapse_key_open.exit"
+Ldeerlapse_BB61_6:                                ; %"aead_ciphers_wide::aes_gcm::ExpandedKey::open_within_to_front.exit.i"
+	mov	w0, wzr
 	ldp	x29, x30, [sp, #192]            ; 16-byte Folded Reload
-	mov	w0, w8
 	ldp	x20, x19, [sp, #176]            ; 16-byte Folded Reload
 	ldp	x22, x21, [sp, #160]            ; 16-byte Folded Reload
 	ldp	x24, x23, [sp, #144]            ; 16-byte Folded Reload
 	add	sp, sp, #208
+	ret
+Ldeerlapse_BB61_7:
+	mov	w0, wzr
 	ret
 Ldeerlapse_BB61_8:                                ; %arm.4.i
 	add	x0, sp, #56
@@ -11371,9 +11369,15 @@ Ldeerlapse_BB61_8:                                ; %arm.4.i
 	mov	x3, x19
 	mov	x4, x21
 	bl	"_aead_ciphers::aes_gcm::counter_mode::encrypt_within::<#6fa349fe97f872a2>"
-	mov	w8, #1                          ; =0x1
-	str	x0, [x22]
-	b	Ldeerlapse_BB61_7
+	mov	x8, x0
+	mov	w0, #1                          ; =0x1
+	str	x8, [x22]
+	ldp	x29, x30, [sp, #192]            ; 16-byte Folded Reload
+	ldp	x20, x19, [sp, #176]            ; 16-byte Folded Reload
+	ldp	x22, x21, [sp, #160]            ; 16-byte Folded Reload
+	ldp	x24, x23, [sp, #144]            ; 16-byte Folded Reload
+	add	sp, sp, #208
+	ret
                                         ; -- End function
 	.globl	_deerlapse_key_open_separate_tag ; -- Begin function deerlapse_key_open_separate_tag
 	.p2align	2
@@ -11432,11 +11436,11 @@ _deerlapse_key_open_separate_tag:       ; @deerlapse_key_open_separate_tag
 	sub	x3, x29, #64
 	sub	x6, x29, #80
 	add	x7, x20, x9
+	stp	xzr, xzr, [sp, #24]
 	stur	q0, [x29, #-80]
-	stp	w13, wzr, [sp, #80]
 	mov	x22, x9
 	add	x23, sp, #92
-	stp	xzr, xzr, [sp, #24]
+	stp	w13, wzr, [sp, #80]
 	stp	x8, x10, [sp]
 	bl	"_aead_ciphers::aes_gcm::opening::authenticate::<#7bfdf0a6b4753edd>"
 	ldrb	w8, [sp, #92]
@@ -12262,52 +12266,53 @@ ldeerlapse_CPI71_3:
 _deerlapse_quic_key_open:               ; @deerlapse_quic_key_open
 ; %bb.0:                                ; %start
 	cmp	x2, #0
-	mov	w8, #4096                       ; =0x1000
-	lsr	x11, x1, #62
-	csel	x9, x8, xzr, eq
+	mov	w9, #4096                       ; =0x1000
+	lsr	x10, x1, #62
+	csel	x8, x9, xzr, eq
 	cmp	x4, #0
-	csel	x10, x8, xzr, eq
-	cbz	x11, Ldeerlapse_BB71_2
+	csel	x9, x9, xzr, eq
+	cbz	x10, Ldeerlapse_BB71_2
 ; %bb.1:
 	mov	w0, wzr
 	ret
 Ldeerlapse_BB71_2:                                ; %join.3.i
 	sub	sp, sp, #192
-	rev	x11, x1
+	rev	x10, x1
 Ldeerlapse_loh144:
-	adrp	x12, ldeerlapse_CPI71_0@PAGE
-	stp	x20, x19, [sp, #160]            ; 16-byte Folded Spill
-	dup.2d	v0, x11
+	adrp	x11, ldeerlapse_CPI71_0@PAGE
+	stp	x22, x21, [sp, #144]            ; 16-byte Folded Spill
+	dup.2d	v0, x10
 Ldeerlapse_loh145:
-	adrp	x11, ldeerlapse_CPI71_1@PAGE
+	adrp	x10, ldeerlapse_CPI71_1@PAGE
 Ldeerlapse_loh146:
-	ldr	q1, [x12, ldeerlapse_CPI71_0@PAGEOFF]
+	ldr	q1, [x11, ldeerlapse_CPI71_0@PAGEOFF]
 Ldeerlapse_loh147:
-	adrp	x12, ldeerlapse_CPI71_2@PAGE
+	adrp	x11, ldeerlapse_CPI71_2@PAGE
 Ldeerlapse_loh148:
-	ldr	q2, [x11, ldeerlapse_CPI71_1@PAGEOFF]
+	ldr	q2, [x10, ldeerlapse_CPI71_1@PAGEOFF]
 Ldeerlapse_loh149:
-	adrp	x11, ldeerlapse_CPI71_3@PAGE
+	adrp	x10, ldeerlapse_CPI71_3@PAGE
 Ldeerlapse_loh150:
-	ldr	q3, [x12, ldeerlapse_CPI71_2@PAGEOFF]
+	ldr	q3, [x11, ldeerlapse_CPI71_2@PAGEOFF]
 Ldeerlapse_loh151:
-	ldr	q4, [x11, ldeerlapse_CPI71_3@PAGEOFF]
-	mov	w8, wzr
+	ldr	q4, [x10, ldeerlapse_CPI71_3@PAGEOFF]
+	ldr	w10, [x0, #1920]
 	ushl.2d	v1, v0, v1
 	ushl.2d	v2, v0, v2
-	subs	x19, x5, #16
+	stp	x20, x19, [sp, #160]            ; 16-byte Folded Spill
 	ushl.2d	v3, v0, v3
 	ushl.2d	v0, v0, v4
 	ldr	s4, [x0, #3192]
-	stp	x22, x21, [sp, #144]            ; 16-byte Folded Spill
+	sub	w11, w10, #10
+	stp	x29, x30, [sp, #176]            ; 16-byte Folded Spill
+	add	x29, sp, #176
 	uzp1.4s	v1, v2, v1
 	ldr	s2, [x0, #3196]
 	zip1.8b	v4, v4, v4
 	uzp1.4s	v0, v0, v3
 	ldr	s3, [x0, #3200]
-	stp	x29, x30, [sp, #176]            ; 16-byte Folded Spill
+	cmp	w11, #4
 	zip1.8b	v2, v2, v2
-	add	x29, sp, #176
 	zip1.8b	v3, v3, v3
 	xtn.4h	v1, v1
 	xtn.4h	v0, v0
@@ -12317,59 +12322,54 @@ Ldeerlapse_loh151:
 	uzp1.8b	v0, v0, v0
 	str	d1, [sp, #24]
 	str	s0, [sp, #32]
-	b.lo	Ldeerlapse_BB71_8
-; %bb.3:                                ; %join.3.i
-	ldr	w11, [x0, #1920]
-	sub	w12, w11, #15
-	cmn	w12, #5
-	b.lo	Ldeerlapse_BB71_8
+	b.hi	Ldeerlapse_BB71_7
+; %bb.3:                                ; %join.3.i.i
+	subs	x19, x5, #16
+	b.lo	Ldeerlapse_BB71_7
 ; %bb.4:                                ; %arm.1.i.i.i
-	lsr	x12, x3, #61
-	mov	w8, wzr
-	cbnz	x12, Ldeerlapse_BB71_8
+	lsr	x11, x3, #61
+	cbnz	x11, Ldeerlapse_BB71_7
 ; %bb.5:                                ; %arm.1.i.i.i
-	mov	x12, #68719476704               ; =0xfffffffe0
-	cmp	x19, x12
-	b.hi	Ldeerlapse_BB71_8
+	mov	x11, #68719476704               ; =0xfffffffe0
+	cmp	x19, x11
+	b.hi	Ldeerlapse_BB71_7
 ; %bb.6:                                ; %join.3.i.i.i.i.i
-	add	x20, x4, x10
-	ldr	w10, [x0, #1924]
-	add	x8, x0, #1928
-	stp	x0, x8, [sp, #72]
-	add	x8, x0, #2168
-	ldr	q0, [x20, x19]
-	stp	w10, wzr, [sp, #96]
+	add	x20, x4, x9
+	add	x9, x0, #1928
+	str	x10, [sp, #88]
+	stp	x0, x9, [sp, #72]
+	add	x9, x0, #2168
 	add	x10, x0, #2680
-	mov	x21, x6
-	stp	x8, x10, [sp, #56]
+	ldr	q0, [x20, x19]
+	ldr	w11, [x0, #1924]
+	stp	x9, x10, [sp, #56]
 	mov	x10, x2
-	add	x8, sp, #40
+	mov	x21, x6
+	add	x9, sp, #40
 	sub	x0, x29, #68
 	add	x1, sp, #72
 	add	x2, sp, #56
 	mov	x5, x3
 	add	x3, sp, #24
-	add	x4, x10, x9
+	add	x4, x10, x8
 	sub	x6, x29, #48
 	mov	x7, x20
-	str	x11, [sp, #88]
+	stp	xzr, xzr, [sp, #40]
 	stur	q0, [x29, #-48]
 	sub	x22, x29, #68
-	stp	xzr, xzr, [sp, #40]
-	stp	x19, x8, [sp]
+	stp	w11, wzr, [sp, #96]
+	stp	x19, x9, [sp]
 	bl	"_aead_ciphers::aes_gcm::opening::authenticate::<#7bfdf0a6b4753edd>"
 	ldurb	w8, [x29, #-68]
-	cbz	w8, Ldeerlapse_BB71_9
-; %bb.7:                                ; %"aead_ciphers_wide::aes_gcm::ExpandedKey::open_within_to_front.exit.i.i"
-	mov	w8, wzr
-Ldeerlapse_BB71_8:
+	cbz	w8, Ldeerlapse_BB71_8
+Ldeerlapse_BB71_7:
+	mov	w0, wzr
 	ldp	x29, x30, [sp, #176]            ; 16-byte Folded Reload
 	ldp	x20, x19, [sp, #160]            ; 16-byte Folded Reload
 	ldp	x22, x21, [sp, #144]            ; 16-byte Folded Reload
 	add	sp, sp, #192
-	mov	w0, w8
 	ret
-Ldeerlapse_BB71_9:                                ; %arm.4.i.i
+Ldeerlapse_BB71_8:                                ; %arm.4.i.i
 	add	x0, sp, #72
 	orr	x1, x22, #0x1
 	add	x5, sp, #40
@@ -12377,13 +12377,13 @@ Ldeerlapse_BB71_9:                                ; %arm.4.i.i
 	mov	x3, x19
 	mov	x4, xzr
 	bl	"_aead_ciphers::aes_gcm::counter_mode::encrypt_within::<#6fa349fe97f872a2>"
-	mov	w8, #1                          ; =0x1
-	str	x0, [x21]
+	mov	x8, x0
+	mov	w0, #1                          ; =0x1
+	str	x8, [x21]
 	ldp	x29, x30, [sp, #176]            ; 16-byte Folded Reload
 	ldp	x20, x19, [sp, #160]            ; 16-byte Folded Reload
 	ldp	x22, x21, [sp, #144]            ; 16-byte Folded Reload
 	add	sp, sp, #192
-	mov	w0, w8
 	ret
 	.loh AdrpLdr	Ldeerlapse_loh149, Ldeerlapse_loh151
 	.loh AdrpLdr	Ldeerlapse_loh147, Ldeerlapse_loh150
@@ -12549,10 +12549,10 @@ Ldeerlapse_loh167:
 	zip1.8b	v3, v3, v3
 	stp	x20, x19, [sp, #176]            ; 16-byte Folded Spill
 	xtn.4h	v1, v1
-	sub	w10, w9, #15
+	sub	w10, w9, #10
 	stp	x29, x30, [sp, #192]            ; 16-byte Folded Spill
 	xtn.4h	v0, v0
-	cmn	w10, #5
+	cmp	w10, #4
 	add	x29, sp, #192
 	strb	w3, [sp, #20]
 	eor.8b	v1, v2, v1
@@ -12561,19 +12561,18 @@ Ldeerlapse_loh167:
 	uzp1.8b	v0, v0, v0
 	str	d1, [sp, #24]
 	str	s0, [sp, #32]
-	b.lo	Ldeerlapse_BB73_4
+	b.hi	Ldeerlapse_BB73_4
 ; %bb.3:                                ; %join.3.i.i.i.i.i
-	str	x9, [sp, #88]
-	ldr	w9, [x0, #1924]
 	add	x19, x2, x8
 	sub	x20, x3, #16
 	add	x8, x0, #1928
-	mov	x21, x4
-	stp	x0, x8, [sp, #72]
 	ldr	q0, [x19, x20]
+	stp	x0, x8, [sp, #72]
+	ldr	w10, [x0, #1924]
+	str	x9, [sp, #88]
 	add	x8, x0, #2168
-	stp	w9, wzr, [sp, #96]
 	add	x9, x0, #2680
+	mov	x21, x4
 	mov	x22, x5
 	stp	x8, x9, [sp, #56]
 	add	x8, sp, #40
@@ -12585,9 +12584,10 @@ Ldeerlapse_loh167:
 	sub	x6, x29, #64
 	mov	w5, #5                          ; =0x5
 	mov	x7, x19
-	stur	q0, [x29, #-64]
-	sub	x23, x29, #84
 	stp	xzr, xzr, [sp, #40]
+	sub	x23, x29, #84
+	stur	q0, [x29, #-64]
+	stp	w10, wzr, [sp, #96]
 	stp	x20, x8, [sp]
 	bl	"_aead_ciphers::aes_gcm::opening::authenticate::<#7bfdf0a6b4753edd>"
 	ldurb	w8, [x29, #-84]

@@ -10552,6 +10552,8 @@ Ldeerlapse_0_1_0_BB30_10:                               ## %join.3
 	je	Ldeerlapse_0_1_0_BB31_2
 ## %bb.4:                               ## %after.1
 	movq	240(%rsp), %r9
+	xorps	%xmm0, %xmm0
+	movaps	%xmm0, 80(%rsp)
 	movl	8(%rsi), %r10d
 	movl	%r10d, 40(%rsp)
 	movq	(%rsi), %rsi
@@ -10569,8 +10571,6 @@ Ldeerlapse_0_1_0_BB30_10:                               ## %join.3
 	addq	$2680, %rdi                     ## imm = 0xA78
 	movq	%rax, 104(%rsp)
 	movq	%rdi, 112(%rsp)
-	xorps	%xmm0, %xmm0
-	movaps	%xmm0, 80(%rsp)
 	leaq	80(%rsp), %rax
 	movq	%rax, 24(%rsp)
 	movq	%rbx, 16(%rsp)
@@ -11350,53 +11350,52 @@ Ldeerlapse_0_1_0_BB32_2:                                ## %common.ret
 	pxor	%xmm1, %xmm2
 	movq	%xmm0, 32(%rsp)
 	movd	%xmm2, 40(%rsp)
-	movl	1920(%rdi), %esi
-	leal	-15(%rsi), %eax
-	cmpl	$-5, %eax
-	setb	%al
+	movl	1920(%rdi), %eax
+	leal	-10(%rax), %esi
+	cmpl	$4, %esi
+	ja	Ldeerlapse_0_1_0_BB33_6
+## %bb.1:                               ## %join.3.i
 	cmpq	$16, %r9
-	setb	%r10b
-	orb	%al, %r10b
-	jne	Ldeerlapse_0_1_0_BB33_1
+	jb	Ldeerlapse_0_1_0_BB33_6
 ## %bb.2:                               ## %arm.1.i.i
 	movq	208(%rsp), %rbx
 	leaq	-16(%r9), %r14
-	movq	%r14, %rax
-	subq	%rbx, %rax
-	jb	Ldeerlapse_0_1_0_BB33_1
-## %bb.4:                               ## %arm.8.i.i
+	movq	%r14, %rsi
+	subq	%rbx, %rsi
+	jb	Ldeerlapse_0_1_0_BB33_6
+## %bb.3:                               ## %arm.8.i.i
 	movq	%rcx, %r10
 	shrq	$61, %r10
 	setne	%r10b
 	movabsq	$68719476704, %r11              ## imm = 0xFFFFFFFE0
-	cmpq	%r11, %rax
+	cmpq	%r11, %rsi
 	seta	%r11b
 	orb	%r10b, %r11b
-	jne	Ldeerlapse_0_1_0_BB33_1
-## %bb.5:                               ## %join.3.i.i.i.i
+	jne	Ldeerlapse_0_1_0_BB33_6
+## %bb.4:                               ## %join.3.i.i.i.i
 	addq	%r8, %r9
 	addq	$-16, %r9
+	pxor	%xmm0, %xmm0
+	movdqa	%xmm0, 80(%rsp)
 	movdqu	(%r9), %xmm0
 	movdqa	%xmm0, 144(%rsp)
 	leaq	1928(%rdi), %r9
 	movl	1924(%rdi), %r10d
 	movq	%rdi, 48(%rsp)
 	movq	%r9, 56(%rsp)
-	movq	%rsi, 64(%rsp)
+	movq	%rax, 64(%rsp)
 	movl	%r10d, 72(%rsp)
 	movl	$0, 76(%rsp)
-	leaq	2168(%rdi), %rsi
+	leaq	2168(%rdi), %rax
 	addq	$2680, %rdi                     ## imm = 0xA78
-	movq	%rsi, 104(%rsp)
+	movq	%rax, 104(%rsp)
 	movq	%rdi, 112(%rsp)
-	pxor	%xmm0, %xmm0
-	movdqa	%xmm0, 80(%rsp)
 	movq	%r8, %r15
-	leaq	(%r8,%rbx), %rsi
+	leaq	(%r8,%rbx), %rax
 	leaq	80(%rsp), %rdi
 	movq	%rdi, 24(%rsp)
-	movq	%rax, 16(%rsp)
-	movq	%rsi, 8(%rsp)
+	movq	%rsi, 16(%rsp)
+	movq	%rax, 8(%rsp)
 	leaq	144(%rsp), %rax
 	movq	%rax, (%rsp)
 	leaq	127(%rsp), %rdi
@@ -11410,9 +11409,9 @@ Ldeerlapse_0_1_0_BB32_2:                                ## %common.ret
 	callq	"_deerlapse_0_1_0::aead_ciphers::aes_gcm::opening::authenticate::<#7bfdf0a6b4753edd>"
 	cmpb	$0, 127(%rsp)
 	je	Ldeerlapse_0_1_0_BB33_8
-Ldeerlapse_0_1_0_BB33_1:
+Ldeerlapse_0_1_0_BB33_6:
 	xorl	%eax, %eax
-Ldeerlapse_0_1_0_BB33_9:                                ## %"deerlapse::key::deerlapse_key_open.exit"
+Ldeerlapse_0_1_0_BB33_7:                                ## %"deerlapse::key::deerlapse_key_open.exit"
                                         ## kill: def $al killed $al killed $eax
 	addq	$168, %rsp
 	popq	%rbx
@@ -11431,7 +11430,7 @@ Ldeerlapse_0_1_0_BB33_8:                                ## %arm.4.i
 	callq	"_deerlapse_0_1_0::aead_ciphers::aes_gcm::counter_mode::encrypt_within::<#6fa349fe97f872a2>"
 	movq	%rax, (%r12)
 	movb	$1, %al
-	jmp	Ldeerlapse_0_1_0_BB33_9
+	jmp	Ldeerlapse_0_1_0_BB33_7
                                         ## -- End function
 "_deerlapse_0_1_0::key_derivation::hkdf::Expander::fill_okm::<#01e4f4eb65b1d8bb>": ## -- Begin function key_derivation::hkdf::Expander::fill_okm::<#01e4f4eb65b1d8bb>
                                         ## @"key_derivation::hkdf::Expander::fill_okm::<#01e4f4eb65b1d8bb>"
@@ -13679,29 +13678,29 @@ _deerlapse_0_1_0_key_open:                    ## @deerlapse_key_open
 	xorl	%r11d, %r11d
 	testq	%r8, %r8
 	sete	%bpl
-	movl	1920(%rdi), %r10d
-	leal	-15(%r10), %eax
-	cmpl	$-5, %eax
-	setb	%al
+	movl	1920(%rdi), %eax
+	leal	-10(%rax), %r10d
+	cmpl	$4, %r10d
+	ja	Ldeerlapse_0_1_0_BB57_6
+## %bb.1:                               ## %join.3.i
 	cmpq	$16, %r9
-	setb	%bl
-	orb	%al, %bl
-	jne	Ldeerlapse_0_1_0_BB57_1
+	jb	Ldeerlapse_0_1_0_BB57_6
 ## %bb.2:                               ## %arm.1.i.i
 	leaq	-16(%r9), %r14
-	movq	%r14, %rax
-	subq	224(%rsp), %rax
-	jb	Ldeerlapse_0_1_0_BB57_1
-## %bb.4:                               ## %arm.8.i.i
+	movq	%r14, %r10
+	subq	224(%rsp), %r10
+	jb	Ldeerlapse_0_1_0_BB57_6
+## %bb.3:                               ## %arm.8.i.i
 	movq	%rcx, %r13
 	shrq	$61, %r13
 	setne	%r13b
 	movabsq	$68719476704, %rbx              ## imm = 0xFFFFFFFE0
-	cmpq	%rbx, %rax
+	cmpq	%rbx, %r10
 	seta	%bl
 	orb	%r13b, %bl
-	jne	Ldeerlapse_0_1_0_BB57_1
-## %bb.5:                               ## %join.3.i.i.i.i
+	movq	224(%rsp), %r13
+	jne	Ldeerlapse_0_1_0_BB57_6
+## %bb.4:                               ## %join.3.i.i.i.i
 	movb	%r12b, %r15b
 	shll	$12, %r15d
 	addq	%r15, %rdx
@@ -13710,6 +13709,8 @@ _deerlapse_0_1_0_key_open:                    ## @deerlapse_key_open
 	addq	%r11, %r8
 	addq	%r8, %r9
 	addq	$-16, %r9
+	xorps	%xmm0, %xmm0
+	movaps	%xmm0, 80(%rsp)
 	movl	8(%rsi), %r11d
 	movl	%r11d, 40(%rsp)
 	movq	(%rsi), %rsi
@@ -13720,22 +13721,19 @@ _deerlapse_0_1_0_key_open:                    ## @deerlapse_key_open
 	movl	1924(%rdi), %r9d
 	movq	%rdi, 48(%rsp)
 	movq	%rsi, 56(%rsp)
-	movq	%r10, 64(%rsp)
+	movq	%rax, 64(%rsp)
 	movl	%r9d, 72(%rsp)
 	movl	$0, 76(%rsp)
-	leaq	2168(%rdi), %rsi
+	leaq	2168(%rdi), %rax
 	addq	$2680, %rdi                     ## imm = 0xA78
-	movq	%rsi, 104(%rsp)
+	movq	%rax, 104(%rsp)
 	movq	%rdi, 112(%rsp)
-	xorps	%xmm0, %xmm0
-	movaps	%xmm0, 80(%rsp)
 	movq	%r8, %r15
-	movq	224(%rsp), %r12
-	leaq	(%r8,%r12), %rsi
-	leaq	80(%rsp), %rdi
-	movq	%rdi, 24(%rsp)
-	movq	%rax, 16(%rsp)
-	movq	%rsi, 8(%rsp)
+	leaq	(%r8,%r13), %rax
+	leaq	80(%rsp), %rsi
+	movq	%rsi, 24(%rsp)
+	movq	%r10, 16(%rsp)
+	movq	%rax, 8(%rsp)
 	leaq	144(%rsp), %rax
 	movq	%rax, (%rsp)
 	leaq	127(%rsp), %rdi
@@ -13749,9 +13747,9 @@ _deerlapse_0_1_0_key_open:                    ## @deerlapse_key_open
 	callq	"_deerlapse_0_1_0::aead_ciphers::aes_gcm::opening::authenticate::<#7bfdf0a6b4753edd>"
 	cmpb	$0, 127(%rsp)
 	je	Ldeerlapse_0_1_0_BB57_8
-Ldeerlapse_0_1_0_BB57_1:
+Ldeerlapse_0_1_0_BB57_6:
 	xorl	%eax, %eax
-Ldeerlapse_0_1_0_BB57_9:                                ## %"deerlapse::key::deerlapse_key_open.exit"
+Ldeerlapse_0_1_0_BB57_7:                                ## %"deerlapse::key::deerlapse_key_open.exit"
                                         ## kill: def $al killed $al killed $eax
 	addq	$168, %rsp
 	popq	%rbx
@@ -13768,11 +13766,11 @@ Ldeerlapse_0_1_0_BB57_8:                                ## %arm.4.i
 	leaq	80(%rsp), %r9
 	movq	%r15, %rdx
 	movq	%r14, %rcx
-	movq	%r12, %r8
+	movq	%r13, %r8
 	callq	"_deerlapse_0_1_0::aead_ciphers::aes_gcm::counter_mode::encrypt_within::<#6fa349fe97f872a2>"
 	movq	%rax, (%rbx)
 	movb	$1, %al
-	jmp	Ldeerlapse_0_1_0_BB57_9
+	jmp	Ldeerlapse_0_1_0_BB57_7
                                         ## -- End function
 	.globl	_deerlapse_0_1_0_key_open_separate_tag ## -- Begin function deerlapse_key_open_separate_tag
 	.p2align	4
@@ -13822,6 +13820,8 @@ _deerlapse_0_1_0_key_open_separate_tag:       ## @deerlapse_key_open_separate_ta
 	movb	%bpl, %r10b
 	shll	$12, %r10d
 	addq	%r10, %r8
+	xorps	%xmm0, %xmm0
+	movaps	%xmm0, 80(%rsp)
 	movq	%r9, %r12
 	movl	8(%rsi), %r9d
 	movl	%r9d, 40(%rsp)
@@ -13840,8 +13840,6 @@ _deerlapse_0_1_0_key_open_separate_tag:       ## @deerlapse_key_open_separate_ta
 	addq	$2680, %rdi                     ## imm = 0xA78
 	movq	%rax, 104(%rsp)
 	movq	%rdi, 112(%rsp)
-	xorps	%xmm0, %xmm0
-	movaps	%xmm0, 80(%rsp)
 	movq	%r8, %r15
 	leaq	(%r8,%r12), %rax
 	leaq	80(%rsp), %rsi
@@ -14929,7 +14927,7 @@ _deerlapse_0_1_0_quic_key_open:               ## @deerlapse_quic_key_open
 	sete	%r11b
 	movq	%rsi, %r14
 	shrq	$62, %r14
-	jne	Ldeerlapse_0_1_0_BB67_1
+	jne	Ldeerlapse_0_1_0_BB67_7
 ## %bb.2:                               ## %join.3.i
 	bswapq	%rsi
 	movl	%esi, %ebp
@@ -14962,13 +14960,12 @@ _deerlapse_0_1_0_quic_key_open:               ## @deerlapse_quic_key_open
 	pxor	%xmm1, %xmm0
 	movd	%xmm0, 40(%rsp)
 	movl	1920(%rdi), %esi
-	leal	-15(%rsi), %ebp
-	cmpl	$-5, %ebp
-	setb	%bpl
+	leal	-10(%rsi), %ebp
+	cmpl	$4, %ebp
+	ja	Ldeerlapse_0_1_0_BB67_7
+## %bb.3:                               ## %join.3.i.i
 	cmpq	$16, %r9
-	setb	%r14b
-	orb	%bpl, %r14b
-	jne	Ldeerlapse_0_1_0_BB67_1
+	jb	Ldeerlapse_0_1_0_BB67_7
 ## %bb.4:                               ## %arm.1.i.i.i
 	addq	$-16, %r9
 	movq	%rcx, %r14
@@ -14978,7 +14975,7 @@ _deerlapse_0_1_0_quic_key_open:               ## @deerlapse_quic_key_open
 	cmpq	%r14, %r9
 	seta	%r14b
 	orb	%bpl, %r14b
-	jne	Ldeerlapse_0_1_0_BB67_1
+	jne	Ldeerlapse_0_1_0_BB67_7
 ## %bb.5:                               ## %join.3.i.i.i.i.i
 	movb	%bl, %r10b
 	shll	$12, %r10d
@@ -14986,6 +14983,8 @@ _deerlapse_0_1_0_quic_key_open:               ## @deerlapse_quic_key_open
 	movb	%r11b, %al
 	shll	$12, %eax
 	addq	%rax, %r8
+	pxor	%xmm0, %xmm0
+	movdqa	%xmm0, 80(%rsp)
 	movdqu	(%r8,%r9), %xmm0
 	movdqa	%xmm0, 144(%rsp)
 	leaq	1928(%rdi), %rax
@@ -14999,8 +14998,6 @@ _deerlapse_0_1_0_quic_key_open:               ## @deerlapse_quic_key_open
 	addq	$2680, %rdi                     ## imm = 0xA78
 	movq	%rax, 104(%rsp)
 	movq	%rdi, 112(%rsp)
-	pxor	%xmm0, %xmm0
-	movdqa	%xmm0, 80(%rsp)
 	leaq	80(%rsp), %rax
 	movq	%rax, 24(%rsp)
 	movq	%r9, %rbx
@@ -15019,10 +15016,10 @@ _deerlapse_0_1_0_quic_key_open:               ## @deerlapse_quic_key_open
 	movq	%r10, %rcx
 	callq	"_deerlapse_0_1_0::aead_ciphers::aes_gcm::opening::authenticate::<#7bfdf0a6b4753edd>"
 	cmpb	$0, 127(%rsp)
-	je	Ldeerlapse_0_1_0_BB67_8
-Ldeerlapse_0_1_0_BB67_1:
+	je	Ldeerlapse_0_1_0_BB67_9
+Ldeerlapse_0_1_0_BB67_7:
 	xorl	%eax, %eax
-Ldeerlapse_0_1_0_BB67_9:                                ## %"deerlapse::quic_key::deerlapse_quic_key_open.exit"
+Ldeerlapse_0_1_0_BB67_8:                                ## %"deerlapse::quic_key::deerlapse_quic_key_open.exit"
                                         ## kill: def $al killed $al killed $eax
 	addq	$160, %rsp
 	popq	%rbx
@@ -15031,7 +15028,7 @@ Ldeerlapse_0_1_0_BB67_9:                                ## %"deerlapse::quic_key
 	popq	%r15
 	popq	%rbp
 	retq
-Ldeerlapse_0_1_0_BB67_8:                                ## %arm.4.i.i
+Ldeerlapse_0_1_0_BB67_9:                                ## %arm.4.i.i
 	movq	208(%rsp), %r15
 	leaq	128(%rsp), %rsi
 	leaq	48(%rsp), %rdi
@@ -15042,7 +15039,7 @@ Ldeerlapse_0_1_0_BB67_8:                                ## %arm.4.i.i
 	callq	"_deerlapse_0_1_0::aead_ciphers::aes_gcm::counter_mode::encrypt_within::<#6fa349fe97f872a2>"
 	movq	%rax, (%r15)
 	movb	$1, %al
-	jmp	Ldeerlapse_0_1_0_BB67_9
+	jmp	Ldeerlapse_0_1_0_BB67_8
                                         ## -- End function
 	.globl	_deerlapse_0_1_0_quic_key_seal        ## -- Begin function deerlapse_quic_key_seal
 	.p2align	4
@@ -15164,16 +15161,18 @@ _deerlapse_0_1_0_record_key_open:             ## @deerlapse_record_key_open
 	movb	%bh, 38(%rsp)
 	movb	%bl, 39(%rsp)
 	movl	1920(%rdi), %ecx
-	leal	-15(%rcx), %esi
-	cmpl	$-5, %esi
-	jb	Ldeerlapse_0_1_0_BB69_1
-## %bb.4:                               ## %join.3.i.i.i.i.i
+	leal	-10(%rcx), %esi
+	cmpl	$4, %esi
+	ja	Ldeerlapse_0_1_0_BB69_1
+## %bb.3:                               ## %join.3.i.i.i.i.i
 	movq	%r8, %rbp
 	movq	%r9, %r13
 	movb	%al, %r15b
 	shll	$12, %r15d
 	movq	%rdx, 40(%rsp)                  ## 8-byte Spill
 	leaq	(%rdx,%r15), %r14
+	pxor	%xmm0, %xmm0
+	movdqa	%xmm0, 96(%rsp)
 	movdqu	-16(%r14,%rbx), %xmm0
 	addq	$-16, %rbx
 	movdqa	%xmm0, 160(%rsp)
@@ -15188,8 +15187,6 @@ _deerlapse_0_1_0_record_key_open:             ## @deerlapse_record_key_open
 	addq	$2680, %rdi                     ## imm = 0xA78
 	movq	%rax, 120(%rsp)
 	movq	%rdi, 128(%rsp)
-	pxor	%xmm0, %xmm0
-	movdqa	%xmm0, 96(%rsp)
 	leaq	96(%rsp), %rax
 	movq	%rax, 24(%rsp)
 	movq	%rbx, 16(%rsp)
@@ -15505,18 +15502,18 @@ _deerlapse_0_1_0_open:                        ## @deerlapse_open
 	movq	$0, (%rsp)
 	subq	$312, %rsp                      ## imm = 0x138
 	movq	%r9, %rbx
-	movq	%r8, 88(%rsp)                   ## 8-byte Spill
+	movq	%r8, 40(%rsp)                   ## 8-byte Spill
 	movq	%rcx, %r15
-	movq	%rdx, 80(%rsp)                  ## 8-byte Spill
+	movq	%rdx, 88(%rsp)                  ## 8-byte Spill
 	movq	%rsi, %r13
 	movq	%rdi, %rbp
 	xorl	%r14d, %r14d
 	testq	%rdi, %rdi
 	sete	%r12b
 	testq	%rcx, %rcx
-	sete	46(%rsp)                        ## 1-byte Folded Spill
+	sete	38(%rsp)                        ## 1-byte Folded Spill
 	testq	%r9, %r9
-	sete	47(%rsp)                        ## 1-byte Folded Spill
+	sete	39(%rsp)                        ## 1-byte Folded Spill
 	leaq	192(%rsp), %rdi
 	movl	$3192, %esi                     ## imm = 0xC78
 	callq	___bzero
@@ -15526,79 +15523,77 @@ _deerlapse_0_1_0_open:                        ## @deerlapse_open
 	xorl	%eax, %eax
 	cmpq	$16, %r13
 	je	Ldeerlapse_0_1_0_BB72_3
-	jmp	Ldeerlapse_0_1_0_BB72_12
+	jmp	Ldeerlapse_0_1_0_BB72_10
 Ldeerlapse_0_1_0_BB72_2:
 	movb	$1, %al
 Ldeerlapse_0_1_0_BB72_3:                                ## %then.1.i.i
-	movq	3440(%rsp), %r13
 	movb	%r12b, %r14b
 	shll	$12, %r14d
 	addq	%r14, %rbp
 	xorps	%xmm0, %xmm0
 	movaps	%xmm0, 48(%rsp)
 	movzbl	%al, %esi
-	leaq	192(%rsp), %r14
+	leaq	192(%rsp), %r13
 	leaq	48(%rsp), %rcx
-	movq	%r14, %rdi
+	movq	%r13, %rdi
 	movq	%rbp, %rdx
 	callq	"_deerlapse_0_1_0::aead_ciphers_wide::aes_gcm::ExpandedKey::expand_with_width"
 	movl	2112(%rsp), %eax
-	leal	-15(%rax), %ecx
-	cmpl	$-5, %ecx
-	setb	%cl
-	cmpq	$16, %r13
-	setb	%dl
-	orb	%cl, %dl
-	jne	Ldeerlapse_0_1_0_BB72_4
+	leal	-10(%rax), %ecx
+	cmpl	$4, %ecx
+	ja	Ldeerlapse_0_1_0_BB72_9
+## %bb.4:                               ## %join.3.i.i.i
+	movq	3440(%rsp), %rdx
+	cmpq	$16, %rdx
+	jb	Ldeerlapse_0_1_0_BB72_9
 ## %bb.5:                               ## %arm.1.i.i.i.i
 	movq	3448(%rsp), %r12
-	leaq	-16(%r13), %rbp
+	leaq	-16(%rdx), %rbp
 	movq	%rbp, %rcx
 	subq	%r12, %rcx
-	jb	Ldeerlapse_0_1_0_BB72_4
-## %bb.7:                               ## %arm.8.i.i.i.i
-	movq	88(%rsp), %r9                   ## 8-byte Reload
-	movq	%r9, %rdx
-	shrq	$61, %rdx
-	setne	%dl
-	movabsq	$68719476704, %rsi              ## imm = 0xFFFFFFFE0
-	cmpq	%rsi, %rcx
-	seta	%sil
-	orb	%dl, %sil
-	jne	Ldeerlapse_0_1_0_BB72_4
-## %bb.8:                               ## %join.3.i.i.i.i.i.i
-	xorl	%edx, %edx
-	movzbl	46(%rsp), %esi                  ## 1-byte Folded Reload
-	movb	%sil, %dl
-	shll	$12, %edx
-	addq	%rdx, %r15
-	xorl	%edx, %edx
-	movzbl	47(%rsp), %esi                  ## 1-byte Folded Reload
-	movb	%sil, %dl
-	shll	$12, %edx
-	addq	%rdx, %rbx
-	leaq	2120(%rsp), %rdx
-	leaq	2360(%rsp), %rsi
-	leaq	2872(%rsp), %rdi
-	leaq	(%rbx,%r13), %r8
-	addq	$-16, %r8
-	movq	80(%rsp), %r11                  ## 8-byte Reload
-	movl	8(%r11), %r10d
-	movl	%r10d, 104(%rsp)
-	movq	(%r11), %r10
-	movq	%r10, 96(%rsp)
-	movups	(%r8), %xmm0
-	movaps	%xmm0, 176(%rsp)
-	movl	2116(%rsp), %r8d
-	movq	%r14, 48(%rsp)
-	movq	%rdx, 56(%rsp)
-	movq	%rax, 64(%rsp)
-	movl	%r8d, 72(%rsp)
-	movl	$0, 76(%rsp)
-	movq	%rsi, 136(%rsp)
-	movq	%rdi, 144(%rsp)
+	jb	Ldeerlapse_0_1_0_BB72_9
+## %bb.6:                               ## %arm.8.i.i.i.i
+	movq	40(%rsp), %rsi                  ## 8-byte Reload
+	shrq	$61, %rsi
+	setne	%sil
+	movabsq	$68719476704, %rdi              ## imm = 0xFFFFFFFE0
+	cmpq	%rdi, %rcx
+	seta	%dil
+	orb	%sil, %dil
+	jne	Ldeerlapse_0_1_0_BB72_9
+## %bb.7:                               ## %join.3.i.i.i.i.i.i
+	xorl	%esi, %esi
+	movzbl	38(%rsp), %edi                  ## 1-byte Folded Reload
+	movb	%dil, %sil
+	shll	$12, %esi
+	addq	%rsi, %r15
+	xorl	%esi, %esi
+	movzbl	39(%rsp), %edi                  ## 1-byte Folded Reload
+	movb	%dil, %sil
+	shll	$12, %esi
+	addq	%rsi, %rbx
+	leaq	2120(%rsp), %rsi
+	leaq	2360(%rsp), %rdi
+	leaq	2872(%rsp), %r8
+	addq	%rbx, %rdx
+	addq	$-16, %rdx
 	xorps	%xmm0, %xmm0
 	movaps	%xmm0, 112(%rsp)
+	movq	88(%rsp), %r10                  ## 8-byte Reload
+	movl	8(%r10), %r9d
+	movl	%r9d, 104(%rsp)
+	movq	(%r10), %r9
+	movq	%r9, 96(%rsp)
+	movups	(%rdx), %xmm0
+	movaps	%xmm0, 176(%rsp)
+	movl	2116(%rsp), %edx
+	movq	%r13, 48(%rsp)
+	movq	%rsi, 56(%rsp)
+	movq	%rax, 64(%rsp)
+	movl	%edx, 72(%rsp)
+	movl	$0, 76(%rsp)
+	movq	%rdi, 136(%rsp)
+	movq	%r8, 144(%rsp)
 	leaq	(%rbx,%r12), %rax
 	leaq	112(%rsp), %rdx
 	movq	%rdx, 24(%rsp)
@@ -15611,12 +15606,13 @@ Ldeerlapse_0_1_0_BB72_3:                                ## %then.1.i.i
 	leaq	136(%rsp), %rdx
 	leaq	96(%rsp), %rcx
 	movq	%r15, %r8
+	movq	40(%rsp), %r9                   ## 8-byte Reload
 	callq	"_deerlapse_0_1_0::aead_ciphers::aes_gcm::opening::authenticate::<#7bfdf0a6b4753edd>"
 	cmpb	$0, 159(%rsp)
 	je	Ldeerlapse_0_1_0_BB72_11
-Ldeerlapse_0_1_0_BB72_4:
+Ldeerlapse_0_1_0_BB72_9:
 	xorl	%eax, %eax
-Ldeerlapse_0_1_0_BB72_12:                               ## %"deerlapse::aes_gcm::deerlapse_open.exit"
+Ldeerlapse_0_1_0_BB72_10:                               ## %"deerlapse::aes_gcm::deerlapse_open.exit"
                                         ## kill: def $al killed $al killed $eax
 	addq	$3384, %rsp                     ## imm = 0xD38
 	popq	%rbx
@@ -15637,7 +15633,7 @@ Ldeerlapse_0_1_0_BB72_11:                               ## %arm.4.i.i.i
 	callq	"_deerlapse_0_1_0::aead_ciphers::aes_gcm::counter_mode::encrypt_within::<#6fa349fe97f872a2>"
 	movq	%rax, (%r14)
 	movb	$1, %al
-	jmp	Ldeerlapse_0_1_0_BB72_12
+	jmp	Ldeerlapse_0_1_0_BB72_10
                                         ## -- End function
 	.globl	_deerlapse_0_1_0_seal                 ## -- Begin function deerlapse_seal
 	.p2align	4

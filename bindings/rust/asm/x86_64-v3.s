@@ -8937,6 +8937,8 @@
 	testb	%r10b, %r9b
 	je	.Ldeerlapse_0_1_0_v3_BB31_2
 # %bb.4:                                # %after.1
+	vxorps	%xmm0, %xmm0, %xmm0
+	vmovaps	%xmm0, 80(%rsp)
 	movq	240(%rsp), %r9
 	movl	8(%rsi), %r10d
 	movl	%r10d, 40(%rsp)
@@ -8955,8 +8957,6 @@
 	addq	$2680, %rdi                     # imm = 0xA78
 	movq	%rax, 104(%rsp)
 	movq	%rdi, 112(%rsp)
-	vxorps	%xmm0, %xmm0, %xmm0
-	vmovaps	%xmm0, 80(%rsp)
 	leaq	80(%rsp), %rax
 	movq	%rax, 24(%rsp)
 	movq	%rbx, 16(%rsp)
@@ -9740,30 +9740,31 @@
 	vpxor	%xmm1, %xmm2, %xmm1
 	vmovq	%xmm0, 32(%rsp)
 	vmovd	%xmm1, 40(%rsp)
-	movl	1920(%rdi), %esi
-	leal	-15(%rsi), %eax
-	cmpl	$-5, %eax
-	setb	%al
+	movl	1920(%rdi), %eax
+	leal	-10(%rax), %esi
+	cmpl	$4, %esi
+	ja	.Ldeerlapse_0_1_0_v3_BB33_6
+# %bb.1:                                # %join.3.i
 	cmpq	$16, %r9
-	setb	%r10b
-	orb	%al, %r10b
-	jne	.Ldeerlapse_0_1_0_v3_BB33_1
+	jb	.Ldeerlapse_0_1_0_v3_BB33_6
 # %bb.2:                                # %arm.1.i.i
 	movq	208(%rsp), %rbx
 	leaq	-16(%r9), %r14
-	movq	%r14, %rax
-	subq	%rbx, %rax
-	jb	.Ldeerlapse_0_1_0_v3_BB33_1
-# %bb.4:                                # %arm.8.i.i
+	movq	%r14, %rsi
+	subq	%rbx, %rsi
+	jb	.Ldeerlapse_0_1_0_v3_BB33_6
+# %bb.3:                                # %arm.8.i.i
 	movq	%rcx, %r10
 	shrq	$61, %r10
 	setne	%r10b
 	movabsq	$68719476704, %r11              # imm = 0xFFFFFFFE0
-	cmpq	%r11, %rax
+	cmpq	%r11, %rsi
 	seta	%r11b
 	orb	%r10b, %r11b
-	jne	.Ldeerlapse_0_1_0_v3_BB33_1
-# %bb.5:                                # %join.3.i.i.i.i
+	jne	.Ldeerlapse_0_1_0_v3_BB33_6
+# %bb.4:                                # %join.3.i.i.i.i
+	vpxor	%xmm0, %xmm0, %xmm0
+	vmovdqa	%xmm0, 80(%rsp)
 	addq	%r8, %r9
 	addq	$-16, %r9
 	vmovdqu	(%r9), %xmm0
@@ -9772,21 +9773,19 @@
 	movl	1924(%rdi), %r10d
 	movq	%rdi, 48(%rsp)
 	movq	%r9, 56(%rsp)
-	movq	%rsi, 64(%rsp)
+	movq	%rax, 64(%rsp)
 	movl	%r10d, 72(%rsp)
 	movl	$0, 76(%rsp)
-	leaq	2168(%rdi), %rsi
+	leaq	2168(%rdi), %rax
 	addq	$2680, %rdi                     # imm = 0xA78
-	movq	%rsi, 104(%rsp)
+	movq	%rax, 104(%rsp)
 	movq	%rdi, 112(%rsp)
-	vpxor	%xmm0, %xmm0, %xmm0
-	vmovdqa	%xmm0, 80(%rsp)
 	movq	%r8, %r15
-	leaq	(%r8,%rbx), %rsi
+	leaq	(%r8,%rbx), %rax
 	leaq	80(%rsp), %rdi
 	movq	%rdi, 24(%rsp)
-	movq	%rax, 16(%rsp)
-	movq	%rsi, 8(%rsp)
+	movq	%rsi, 16(%rsp)
+	movq	%rax, 8(%rsp)
 	leaq	144(%rsp), %rax
 	movq	%rax, (%rsp)
 	leaq	127(%rsp), %rdi
@@ -9800,9 +9799,9 @@
 	callq	"deerlapse_0_1_0_v3::aead_ciphers::aes_gcm::opening::authenticate::<#7bfdf0a6b4753edd>"
 	cmpb	$0, 127(%rsp)
 	je	.Ldeerlapse_0_1_0_v3_BB33_8
-.Ldeerlapse_0_1_0_v3_BB33_1:
+.Ldeerlapse_0_1_0_v3_BB33_6:
 	xorl	%eax, %eax
-.Ldeerlapse_0_1_0_v3_BB33_9:                               # %"deerlapse::key::deerlapse_key_open.exit"
+.Ldeerlapse_0_1_0_v3_BB33_7:                               # %"deerlapse::key::deerlapse_key_open.exit"
                                         # kill: def $al killed $al killed $eax
 	addq	$168, %rsp
 	popq	%rbx
@@ -9821,7 +9820,7 @@
 	callq	"deerlapse_0_1_0_v3::aead_ciphers::aes_gcm::counter_mode::encrypt_within::<#6fa349fe97f872a2>"
 	movq	%rax, (%r12)
 	movb	$1, %al
-	jmp	.Ldeerlapse_0_1_0_v3_BB33_9
+	jmp	.Ldeerlapse_0_1_0_v3_BB33_7
 .Ldeerlapse_0_1_0_v3_func_end33:
 	.size	"deerlapse_0_1_0_v3::deerlapse::opener::deerlapse_opener_open_number", .Ldeerlapse_0_1_0_v3_func_end33-"deerlapse_0_1_0_v3::deerlapse::opener::deerlapse_opener_open_number"
                                         # -- End function
@@ -12050,26 +12049,25 @@ deerlapse_0_1_0_v3_key_open:                     # @deerlapse_0_1_0_v3_key_open
 	pushq	%r12
 	pushq	%rbx
 	subq	$168, %rsp
-	xorl	%eax, %eax
+	xorl	%r15d, %r15d
 	testq	%rdx, %rdx
 	sete	%r12b
-	xorl	%r15d, %r15d
+	xorl	%r11d, %r11d
 	testq	%r8, %r8
 	sete	%bpl
-	movl	1920(%rdi), %r11d
-	leal	-15(%r11), %r10d
-	cmpl	$-5, %r10d
-	setb	%r10b
+	movl	1920(%rdi), %eax
+	leal	-10(%rax), %r10d
+	cmpl	$4, %r10d
+	ja	.Ldeerlapse_0_1_0_v3_BB57_6
+# %bb.1:                                # %join.3.i
 	cmpq	$16, %r9
-	setb	%bl
-	orb	%r10b, %bl
-	jne	.Ldeerlapse_0_1_0_v3_BB57_1
+	jb	.Ldeerlapse_0_1_0_v3_BB57_6
 # %bb.2:                                # %arm.1.i.i
 	leaq	-16(%r9), %r14
 	movq	%r14, %r10
 	subq	224(%rsp), %r10
-	jb	.Ldeerlapse_0_1_0_v3_BB57_1
-# %bb.4:                                # %arm.8.i.i
+	jb	.Ldeerlapse_0_1_0_v3_BB57_6
+# %bb.3:                                # %arm.8.i.i
 	movq	%rcx, %r13
 	shrq	$61, %r13
 	setne	%r13b
@@ -12077,38 +12075,38 @@ deerlapse_0_1_0_v3_key_open:                     # @deerlapse_0_1_0_v3_key_open
 	cmpq	%rbx, %r10
 	seta	%bl
 	orb	%r13b, %bl
-	jne	.Ldeerlapse_0_1_0_v3_BB57_1
-# %bb.5:                                # %join.3.i.i.i.i
-	movb	%r12b, %al
-	shll	$12, %eax
-	movb	%bpl, %r15b
+	movq	224(%rsp), %r13
+	jne	.Ldeerlapse_0_1_0_v3_BB57_6
+# %bb.4:                                # %join.3.i.i.i.i
+	movb	%r12b, %r15b
 	shll	$12, %r15d
-	addq	%r15, %r8
+	addq	%r15, %rdx
+	movb	%bpl, %r11b
+	shll	$12, %r11d
+	addq	%r11, %r8
+	vxorps	%xmm0, %xmm0, %xmm0
+	vmovaps	%xmm0, 80(%rsp)
 	addq	%r8, %r9
 	addq	$-16, %r9
-	movl	8(%rsi), %ebx
-	movl	%ebx, 40(%rsp)
+	movl	8(%rsi), %r11d
+	movl	%r11d, 40(%rsp)
 	movq	(%rsi), %rsi
 	movq	%rsi, 32(%rsp)
 	vmovups	(%r9), %xmm0
 	vmovaps	%xmm0, 144(%rsp)
-	addq	%rax, %rdx
-	leaq	1928(%rdi), %rax
-	movl	1924(%rdi), %esi
+	leaq	1928(%rdi), %rsi
+	movl	1924(%rdi), %r9d
 	movq	%rdi, 48(%rsp)
-	movq	%rax, 56(%rsp)
-	movq	%r11, 64(%rsp)
-	movl	%esi, 72(%rsp)
+	movq	%rsi, 56(%rsp)
+	movq	%rax, 64(%rsp)
+	movl	%r9d, 72(%rsp)
 	movl	$0, 76(%rsp)
 	leaq	2168(%rdi), %rax
 	addq	$2680, %rdi                     # imm = 0xA78
 	movq	%rax, 104(%rsp)
 	movq	%rdi, 112(%rsp)
-	vxorps	%xmm0, %xmm0, %xmm0
-	vmovaps	%xmm0, 80(%rsp)
 	movq	%r8, %r15
-	movq	224(%rsp), %r12
-	leaq	(%r8,%r12), %rax
+	leaq	(%r8,%r13), %rax
 	leaq	80(%rsp), %rsi
 	movq	%rsi, 24(%rsp)
 	movq	%r10, 16(%rsp)
@@ -12126,9 +12124,9 @@ deerlapse_0_1_0_v3_key_open:                     # @deerlapse_0_1_0_v3_key_open
 	callq	"deerlapse_0_1_0_v3::aead_ciphers::aes_gcm::opening::authenticate::<#7bfdf0a6b4753edd>"
 	cmpb	$0, 127(%rsp)
 	je	.Ldeerlapse_0_1_0_v3_BB57_8
-.Ldeerlapse_0_1_0_v3_BB57_1:
+.Ldeerlapse_0_1_0_v3_BB57_6:
 	xorl	%eax, %eax
-.Ldeerlapse_0_1_0_v3_BB57_9:                               # %"deerlapse::key::deerlapse_key_open.exit"
+.Ldeerlapse_0_1_0_v3_BB57_7:                               # %"deerlapse::key::deerlapse_key_open.exit"
                                         # kill: def $al killed $al killed $eax
 	addq	$168, %rsp
 	popq	%rbx
@@ -12145,11 +12143,11 @@ deerlapse_0_1_0_v3_key_open:                     # @deerlapse_0_1_0_v3_key_open
 	leaq	80(%rsp), %r9
 	movq	%r15, %rdx
 	movq	%r14, %rcx
-	movq	%r12, %r8
+	movq	%r13, %r8
 	callq	"deerlapse_0_1_0_v3::aead_ciphers::aes_gcm::counter_mode::encrypt_within::<#6fa349fe97f872a2>"
 	movq	%rax, (%rbx)
 	movb	$1, %al
-	jmp	.Ldeerlapse_0_1_0_v3_BB57_9
+	jmp	.Ldeerlapse_0_1_0_v3_BB57_7
 .Ldeerlapse_0_1_0_v3_func_end57:
 	.size	deerlapse_0_1_0_v3_key_open, .Ldeerlapse_0_1_0_v3_func_end57-deerlapse_0_1_0_v3_key_open
                                         # -- End function
@@ -12202,6 +12200,9 @@ deerlapse_0_1_0_v3_key_open_separate_tag:        # @deerlapse_0_1_0_v3_key_open_
 	addq	%r15, %rdx
 	movb	%bpl, %r10b
 	shll	$12, %r10d
+	vxorps	%xmm0, %xmm0, %xmm0
+	vmovaps	%xmm0, 80(%rsp)
+	addq	%r10, %r8
 	movq	%r9, %r12
 	movl	8(%rsi), %r9d
 	movl	%r9d, 40(%rsp)
@@ -12209,7 +12210,6 @@ deerlapse_0_1_0_v3_key_open_separate_tag:        # @deerlapse_0_1_0_v3_key_open_
 	movq	%rsi, 32(%rsp)
 	vmovups	(%rax), %xmm0
 	vmovaps	%xmm0, 144(%rsp)
-	addq	%r10, %r8
 	leaq	1928(%rdi), %rax
 	movl	1924(%rdi), %esi
 	movq	%rdi, 48(%rsp)
@@ -12221,8 +12221,6 @@ deerlapse_0_1_0_v3_key_open_separate_tag:        # @deerlapse_0_1_0_v3_key_open_
 	addq	$2680, %rdi                     # imm = 0xA78
 	movq	%rax, 104(%rsp)
 	movq	%rdi, 112(%rsp)
-	vxorps	%xmm0, %xmm0, %xmm0
-	vmovaps	%xmm0, 80(%rsp)
 	movq	%r8, %r15
 	leaq	(%r8,%r12), %rax
 	leaq	80(%rsp), %rsi
@@ -13304,15 +13302,15 @@ deerlapse_0_1_0_v3_quic_key_open:                # @deerlapse_0_1_0_v3_quic_key_
 	pushq	%r12
 	pushq	%rbx
 	subq	$160, %rsp
-	xorl	%r10d, %r10d
+	xorl	%eax, %eax
 	testq	%rdx, %rdx
 	sete	%bl
-	xorl	%eax, %eax
+	xorl	%r10d, %r10d
 	testq	%r8, %r8
 	sete	%r11b
 	movq	%rsi, %r14
 	shrq	$62, %r14
-	jne	.Ldeerlapse_0_1_0_v3_BB67_1
+	jne	.Ldeerlapse_0_1_0_v3_BB67_7
 # %bb.2:                                # %join.3.i
 	bswapq	%rsi
 	movl	%esi, %ebp
@@ -13345,13 +13343,12 @@ deerlapse_0_1_0_v3_quic_key_open:                # @deerlapse_0_1_0_v3_quic_key_
 	vpxor	%xmm0, %xmm1, %xmm0
 	vmovd	%xmm0, 40(%rsp)
 	movl	1920(%rdi), %esi
-	leal	-15(%rsi), %ebp
-	cmpl	$-5, %ebp
-	setb	%bpl
+	leal	-10(%rsi), %ebp
+	cmpl	$4, %ebp
+	ja	.Ldeerlapse_0_1_0_v3_BB67_7
+# %bb.3:                                # %join.3.i.i
 	cmpq	$16, %r9
-	setb	%r14b
-	orb	%bpl, %r14b
-	jne	.Ldeerlapse_0_1_0_v3_BB67_1
+	jb	.Ldeerlapse_0_1_0_v3_BB67_7
 # %bb.4:                                # %arm.1.i.i.i
 	addq	$-16, %r9
 	movq	%rcx, %r14
@@ -13361,16 +13358,18 @@ deerlapse_0_1_0_v3_quic_key_open:                # @deerlapse_0_1_0_v3_quic_key_
 	cmpq	%r14, %r9
 	seta	%r14b
 	orb	%bpl, %r14b
-	jne	.Ldeerlapse_0_1_0_v3_BB67_1
+	jne	.Ldeerlapse_0_1_0_v3_BB67_7
 # %bb.5:                                # %join.3.i.i.i.i.i
-	movb	%bl, %r10b
-	shll	$12, %r10d
-	addq	%r10, %rdx
-	movb	%r11b, %al
+	movb	%bl, %al
 	shll	$12, %eax
-	addq	%rax, %r8
+	movb	%r11b, %r10b
+	shll	$12, %r10d
+	vpxor	%xmm0, %xmm0, %xmm0
+	vmovdqa	%xmm0, 80(%rsp)
+	addq	%r10, %r8
 	vmovdqu	(%r8,%r9), %xmm0
 	vmovdqa	%xmm0, 144(%rsp)
+	addq	%rax, %rdx
 	leaq	1928(%rdi), %rax
 	movl	1924(%rdi), %r10d
 	movq	%rdi, 48(%rsp)
@@ -13382,8 +13381,6 @@ deerlapse_0_1_0_v3_quic_key_open:                # @deerlapse_0_1_0_v3_quic_key_
 	addq	$2680, %rdi                     # imm = 0xA78
 	movq	%rax, 104(%rsp)
 	movq	%rdi, 112(%rsp)
-	vpxor	%xmm0, %xmm0, %xmm0
-	vmovdqa	%xmm0, 80(%rsp)
 	leaq	80(%rsp), %rax
 	movq	%rax, 24(%rsp)
 	movq	%r9, %rbx
@@ -13402,10 +13399,10 @@ deerlapse_0_1_0_v3_quic_key_open:                # @deerlapse_0_1_0_v3_quic_key_
 	movq	%r10, %rcx
 	callq	"deerlapse_0_1_0_v3::aead_ciphers::aes_gcm::opening::authenticate::<#7bfdf0a6b4753edd>"
 	cmpb	$0, 127(%rsp)
-	je	.Ldeerlapse_0_1_0_v3_BB67_8
-.Ldeerlapse_0_1_0_v3_BB67_1:
+	je	.Ldeerlapse_0_1_0_v3_BB67_9
+.Ldeerlapse_0_1_0_v3_BB67_7:
 	xorl	%eax, %eax
-.Ldeerlapse_0_1_0_v3_BB67_9:                               # %"deerlapse::quic_key::deerlapse_quic_key_open.exit"
+.Ldeerlapse_0_1_0_v3_BB67_8:                               # %"deerlapse::quic_key::deerlapse_quic_key_open.exit"
                                         # kill: def $al killed $al killed $eax
 	addq	$160, %rsp
 	popq	%rbx
@@ -13414,7 +13411,7 @@ deerlapse_0_1_0_v3_quic_key_open:                # @deerlapse_0_1_0_v3_quic_key_
 	popq	%r15
 	popq	%rbp
 	retq
-.Ldeerlapse_0_1_0_v3_BB67_8:                               # %arm.4.i.i
+.Ldeerlapse_0_1_0_v3_BB67_9:                               # %arm.4.i.i
 	movq	208(%rsp), %r15
 	leaq	128(%rsp), %rsi
 	leaq	48(%rsp), %rdi
@@ -13425,7 +13422,7 @@ deerlapse_0_1_0_v3_quic_key_open:                # @deerlapse_0_1_0_v3_quic_key_
 	callq	"deerlapse_0_1_0_v3::aead_ciphers::aes_gcm::counter_mode::encrypt_within::<#6fa349fe97f872a2>"
 	movq	%rax, (%r15)
 	movb	$1, %al
-	jmp	.Ldeerlapse_0_1_0_v3_BB67_9
+	jmp	.Ldeerlapse_0_1_0_v3_BB67_8
 .Ldeerlapse_0_1_0_v3_func_end67:
 	.size	deerlapse_0_1_0_v3_quic_key_open, .Ldeerlapse_0_1_0_v3_func_end67-deerlapse_0_1_0_v3_quic_key_open
                                         # -- End function
@@ -13555,19 +13552,21 @@ deerlapse_0_1_0_v3_record_key_open:              # @deerlapse_0_1_0_v3_record_ke
 	movb	%bh, 38(%rsp)
 	movb	%bl, 39(%rsp)
 	movl	1920(%rdi), %ecx
-	leal	-15(%rcx), %esi
-	cmpl	$-5, %esi
-	jb	.Ldeerlapse_0_1_0_v3_BB69_1
-# %bb.4:                                # %join.3.i.i.i.i.i
+	leal	-10(%rcx), %esi
+	cmpl	$4, %esi
+	ja	.Ldeerlapse_0_1_0_v3_BB69_1
+# %bb.3:                                # %join.3.i.i.i.i.i
 	movq	%r8, %rbp
 	movq	%r9, %r13
 	movb	%al, %r15b
 	shll	$12, %r15d
+	vpxor	%xmm0, %xmm0, %xmm0
+	vmovdqa	%xmm0, 96(%rsp)
 	movq	%rdx, 40(%rsp)                  # 8-byte Spill
 	leaq	(%rdx,%r15), %r14
 	vmovdqu	-16(%r14,%rbx), %xmm0
-	addq	$-16, %rbx
 	vmovdqa	%xmm0, 160(%rsp)
+	addq	$-16, %rbx
 	leaq	1928(%rdi), %rax
 	movl	1924(%rdi), %edx
 	movq	%rdi, 64(%rsp)
@@ -13579,8 +13578,6 @@ deerlapse_0_1_0_v3_record_key_open:              # @deerlapse_0_1_0_v3_record_ke
 	addq	$2680, %rdi                     # imm = 0xA78
 	movq	%rax, 120(%rsp)
 	movq	%rdi, 128(%rsp)
-	vpxor	%xmm0, %xmm0, %xmm0
-	vmovdqa	%xmm0, 96(%rsp)
 	leaq	96(%rsp), %rax
 	movq	%rax, 24(%rsp)
 	movq	%rbx, 16(%rsp)
@@ -13919,18 +13916,18 @@ deerlapse_0_1_0_v3_open:                         # @deerlapse_0_1_0_v3_open
 	movq	$0, (%rsp)
 	subq	$312, %rsp                      # imm = 0x138
 	movq	%r9, %rbx
-	movq	%r8, 88(%rsp)                   # 8-byte Spill
+	movq	%r8, 40(%rsp)                   # 8-byte Spill
 	movq	%rcx, %r15
-	movq	%rdx, 80(%rsp)                  # 8-byte Spill
+	movq	%rdx, 88(%rsp)                  # 8-byte Spill
 	movq	%rsi, %r13
 	movq	%rdi, %rbp
 	xorl	%r14d, %r14d
 	testq	%rdi, %rdi
 	sete	%r12b
 	testq	%rcx, %rcx
-	sete	46(%rsp)                        # 1-byte Folded Spill
+	sete	38(%rsp)                        # 1-byte Folded Spill
 	testq	%r9, %r9
-	sete	47(%rsp)                        # 1-byte Folded Spill
+	sete	39(%rsp)                        # 1-byte Folded Spill
 	leaq	192(%rsp), %rdi
 	movl	$3192, %edx                     # imm = 0xC78
 	xorl	%esi, %esi
@@ -13941,79 +13938,77 @@ deerlapse_0_1_0_v3_open:                         # @deerlapse_0_1_0_v3_open
 	xorl	%eax, %eax
 	cmpq	$16, %r13
 	je	.Ldeerlapse_0_1_0_v3_BB72_3
-	jmp	.Ldeerlapse_0_1_0_v3_BB72_12
+	jmp	.Ldeerlapse_0_1_0_v3_BB72_10
 .Ldeerlapse_0_1_0_v3_BB72_2:
 	movb	$1, %al
 .Ldeerlapse_0_1_0_v3_BB72_3:                               # %then.1.i.i
-	movq	3440(%rsp), %r13
 	movb	%r12b, %r14b
 	shll	$12, %r14d
 	addq	%r14, %rbp
 	vxorps	%xmm0, %xmm0, %xmm0
 	vmovaps	%xmm0, 48(%rsp)
 	movzbl	%al, %esi
-	leaq	192(%rsp), %r14
+	leaq	192(%rsp), %r13
 	leaq	48(%rsp), %rcx
-	movq	%r14, %rdi
+	movq	%r13, %rdi
 	movq	%rbp, %rdx
 	callq	"deerlapse_0_1_0_v3::aead_ciphers_wide::aes_gcm::ExpandedKey::expand_with_width"
 	movl	2112(%rsp), %eax
-	leal	-15(%rax), %ecx
-	cmpl	$-5, %ecx
-	setb	%cl
-	cmpq	$16, %r13
-	setb	%dl
-	orb	%cl, %dl
-	jne	.Ldeerlapse_0_1_0_v3_BB72_4
+	leal	-10(%rax), %ecx
+	cmpl	$4, %ecx
+	ja	.Ldeerlapse_0_1_0_v3_BB72_9
+# %bb.4:                                # %join.3.i.i.i
+	movq	3440(%rsp), %rdx
+	cmpq	$16, %rdx
+	jb	.Ldeerlapse_0_1_0_v3_BB72_9
 # %bb.5:                                # %arm.1.i.i.i.i
 	movq	3448(%rsp), %r12
-	leaq	-16(%r13), %rbp
+	leaq	-16(%rdx), %rbp
 	movq	%rbp, %rcx
 	subq	%r12, %rcx
-	jb	.Ldeerlapse_0_1_0_v3_BB72_4
-# %bb.7:                                # %arm.8.i.i.i.i
-	movq	88(%rsp), %r9                   # 8-byte Reload
-	movq	%r9, %rdx
-	shrq	$61, %rdx
-	setne	%dl
-	movabsq	$68719476704, %rsi              # imm = 0xFFFFFFFE0
-	cmpq	%rsi, %rcx
-	seta	%sil
-	orb	%dl, %sil
-	jne	.Ldeerlapse_0_1_0_v3_BB72_4
-# %bb.8:                                # %join.3.i.i.i.i.i.i
-	xorl	%edx, %edx
-	movzbl	46(%rsp), %esi                  # 1-byte Folded Reload
-	movb	%sil, %dl
-	shll	$12, %edx
-	addq	%rdx, %r15
-	xorl	%edx, %edx
-	movzbl	47(%rsp), %esi                  # 1-byte Folded Reload
-	movb	%sil, %dl
-	shll	$12, %edx
-	addq	%rdx, %rbx
-	leaq	2120(%rsp), %rdx
-	leaq	2360(%rsp), %rsi
-	leaq	2872(%rsp), %rdi
-	leaq	(%rbx,%r13), %r8
-	addq	$-16, %r8
-	movq	80(%rsp), %r11                  # 8-byte Reload
-	movl	8(%r11), %r10d
-	movl	%r10d, 104(%rsp)
-	movq	(%r11), %r10
-	movq	%r10, 96(%rsp)
-	vmovups	(%r8), %xmm0
-	vmovaps	%xmm0, 176(%rsp)
-	movl	2116(%rsp), %r8d
-	movq	%r14, 48(%rsp)
-	movq	%rdx, 56(%rsp)
-	movq	%rax, 64(%rsp)
-	movl	%r8d, 72(%rsp)
-	movl	$0, 76(%rsp)
-	movq	%rsi, 136(%rsp)
-	movq	%rdi, 144(%rsp)
+	jb	.Ldeerlapse_0_1_0_v3_BB72_9
+# %bb.6:                                # %arm.8.i.i.i.i
+	movq	40(%rsp), %rsi                  # 8-byte Reload
+	shrq	$61, %rsi
+	setne	%sil
+	movabsq	$68719476704, %rdi              # imm = 0xFFFFFFFE0
+	cmpq	%rdi, %rcx
+	seta	%dil
+	orb	%sil, %dil
+	jne	.Ldeerlapse_0_1_0_v3_BB72_9
+# %bb.7:                                # %join.3.i.i.i.i.i.i
+	xorl	%esi, %esi
+	movzbl	38(%rsp), %edi                  # 1-byte Folded Reload
+	movb	%dil, %sil
+	shll	$12, %esi
+	addq	%rsi, %r15
+	xorl	%esi, %esi
+	movzbl	39(%rsp), %edi                  # 1-byte Folded Reload
+	movb	%dil, %sil
+	shll	$12, %esi
+	addq	%rsi, %rbx
+	leaq	2120(%rsp), %rsi
+	leaq	2360(%rsp), %rdi
+	leaq	2872(%rsp), %r8
+	addq	%rbx, %rdx
+	addq	$-16, %rdx
 	vxorps	%xmm0, %xmm0, %xmm0
 	vmovaps	%xmm0, 112(%rsp)
+	movq	88(%rsp), %r10                  # 8-byte Reload
+	movl	8(%r10), %r9d
+	movl	%r9d, 104(%rsp)
+	movq	(%r10), %r9
+	movq	%r9, 96(%rsp)
+	vmovups	(%rdx), %xmm0
+	vmovaps	%xmm0, 176(%rsp)
+	movl	2116(%rsp), %edx
+	movq	%r13, 48(%rsp)
+	movq	%rsi, 56(%rsp)
+	movq	%rax, 64(%rsp)
+	movl	%edx, 72(%rsp)
+	movl	$0, 76(%rsp)
+	movq	%rdi, 136(%rsp)
+	movq	%r8, 144(%rsp)
 	leaq	(%rbx,%r12), %rax
 	leaq	112(%rsp), %rdx
 	movq	%rdx, 24(%rsp)
@@ -14026,12 +14021,13 @@ deerlapse_0_1_0_v3_open:                         # @deerlapse_0_1_0_v3_open
 	leaq	136(%rsp), %rdx
 	leaq	96(%rsp), %rcx
 	movq	%r15, %r8
+	movq	40(%rsp), %r9                   # 8-byte Reload
 	callq	"deerlapse_0_1_0_v3::aead_ciphers::aes_gcm::opening::authenticate::<#7bfdf0a6b4753edd>"
 	cmpb	$0, 159(%rsp)
 	je	.Ldeerlapse_0_1_0_v3_BB72_11
-.Ldeerlapse_0_1_0_v3_BB72_4:
+.Ldeerlapse_0_1_0_v3_BB72_9:
 	xorl	%eax, %eax
-.Ldeerlapse_0_1_0_v3_BB72_12:                              # %"deerlapse::aes_gcm::deerlapse_open_256.exit"
+.Ldeerlapse_0_1_0_v3_BB72_10:                              # %"deerlapse::aes_gcm::deerlapse_open_256.exit"
                                         # kill: def $al killed $al killed $eax
 	addq	$3384, %rsp                     # imm = 0xD38
 	popq	%rbx
@@ -14052,7 +14048,7 @@ deerlapse_0_1_0_v3_open:                         # @deerlapse_0_1_0_v3_open
 	callq	"deerlapse_0_1_0_v3::aead_ciphers::aes_gcm::counter_mode::encrypt_within::<#6fa349fe97f872a2>"
 	movq	%rax, (%r14)
 	movb	$1, %al
-	jmp	.Ldeerlapse_0_1_0_v3_BB72_12
+	jmp	.Ldeerlapse_0_1_0_v3_BB72_10
 .Ldeerlapse_0_1_0_v3_func_end72:
 	.size	deerlapse_0_1_0_v3_open, .Ldeerlapse_0_1_0_v3_func_end72-deerlapse_0_1_0_v3_open
                                         # -- End function

@@ -10649,6 +10649,8 @@
 # %bb.4:                                # %after.1
 	movq	336(%rsp), %r10
 	movq	304(%rsp), %rdi
+	xorps	%xmm0, %xmm0
+	movaps	%xmm0, 176(%rsp)
 	movl	8(%rdx), %r11d
 	movl	%r11d, 96(%rsp)
 	movq	(%rdx), %rdx
@@ -10666,8 +10668,6 @@
 	addq	$2680, %rcx                     # imm = 0xA78
 	movq	%rax, 136(%rsp)
 	movq	%rcx, 144(%rsp)
-	xorps	%xmm0, %xmm0
-	movaps	%xmm0, 176(%rsp)
 	leaq	176(%rsp), %r15
 	movq	%r15, 72(%rsp)
 	movq	%rsi, 64(%rsp)
@@ -11437,52 +11437,51 @@
 	pushq	%rdi
 	pushq	%rbx
 	subq	$208, %rsp
-	movq	296(%rsp), %rax
 	bswapq	%rdx
+	movl	%edx, %eax
+	shrl	$24, %eax
 	movl	%edx, %r10d
-	shrl	$24, %r10d
-	movl	%edx, %r11d
-	shrl	$16, %r11d
+	shrl	$16, %r10d
 	movd	3212(%rcx), %xmm0               # xmm0 = mem[0],zero,zero,zero
 	movd	%edx, %xmm1
-	movl	%edx, %esi
-	shrl	$8, %esi
-	pinsrb	$1, %esi, %xmm1
-	pinsrb	$2, %r11d, %xmm1
-	pinsrb	$3, %r10d, %xmm1
+	movl	%edx, %r11d
+	shrl	$8, %r11d
+	pinsrb	$1, %r11d, %xmm1
+	pinsrb	$2, %r10d, %xmm1
+	pinsrb	$3, %eax, %xmm1
 	pxor	%xmm0, %xmm1
 	movd	3208(%rcx), %xmm0               # xmm0 = mem[0],zero,zero,zero
 	punpckldq	%xmm1, %xmm0            # xmm0 = xmm0[0],xmm1[0],xmm0[1],xmm1[1]
+	movq	%rdx, %rax
+	shrq	$56, %rax
 	movq	%rdx, %r10
-	shrq	$56, %r10
+	shrq	$48, %r10
 	movq	%rdx, %r11
-	shrq	$48, %r11
-	movq	%rdx, %rsi
-	shrq	$40, %rsi
+	shrq	$40, %r11
 	shrq	$32, %rdx
 	movd	3216(%rcx), %xmm1               # xmm1 = mem[0],zero,zero,zero
 	movd	%edx, %xmm2
-	pinsrb	$1, %esi, %xmm2
-	pinsrb	$2, %r11d, %xmm2
-	pinsrb	$3, %r10d, %xmm2
+	pinsrb	$1, %r11d, %xmm2
+	pinsrb	$2, %r10d, %xmm2
+	pinsrb	$3, %eax, %xmm2
 	pxor	%xmm1, %xmm2
 	movq	%xmm0, 88(%rsp)
 	movd	%xmm2, 96(%rsp)
-	movl	1920(%rcx), %r10d
-	leal	-15(%r10), %edx
-	cmpl	$-5, %edx
-	setb	%dl
-	cmpq	$16, %rax
-	setb	%r11b
-	orb	%dl, %r11b
-	jne	.Ldeerlapse_0_1_0_BB33_1
+	movl	1920(%rcx), %eax
+	leal	-10(%rax), %edx
+	cmpl	$4, %edx
+	ja	.Ldeerlapse_0_1_0_BB33_6
+# %bb.1:                                # %join.3.i
+	movq	296(%rsp), %r10
+	cmpq	$16, %r10
+	jb	.Ldeerlapse_0_1_0_BB33_6
 # %bb.2:                                # %arm.1.i.i
 	movq	304(%rsp), %rbx
-	leaq	-16(%rax), %rsi
+	leaq	-16(%r10), %rsi
 	movq	%rsi, %rdx
 	subq	%rbx, %rdx
-	jb	.Ldeerlapse_0_1_0_BB33_1
-# %bb.4:                                # %arm.8.i.i
+	jb	.Ldeerlapse_0_1_0_BB33_6
+# %bb.3:                                # %arm.8.i.i
 	movq	%r9, %r11
 	shrq	$61, %r11
 	setne	%r11b
@@ -11490,26 +11489,26 @@
 	cmpq	%rdi, %rdx
 	seta	%dil
 	orb	%r11b, %dil
-	jne	.Ldeerlapse_0_1_0_BB33_1
-# %bb.5:                                # %join.3.i.i.i.i
+	jne	.Ldeerlapse_0_1_0_BB33_6
+# %bb.4:                                # %join.3.i.i.i.i
 	movq	288(%rsp), %rdi
-	addq	%rdi, %rax
-	addq	$-16, %rax
-	movdqu	(%rax), %xmm0
+	addq	%rdi, %r10
+	addq	$-16, %r10
+	pxor	%xmm0, %xmm0
+	movdqa	%xmm0, 176(%rsp)
+	movdqu	(%r10), %xmm0
 	movdqa	%xmm0, 192(%rsp)
-	leaq	1928(%rcx), %rax
+	leaq	1928(%rcx), %r10
 	movl	1924(%rcx), %r11d
 	movq	%rcx, 104(%rsp)
-	movq	%rax, 112(%rsp)
-	movq	%r10, 120(%rsp)
+	movq	%r10, 112(%rsp)
+	movq	%rax, 120(%rsp)
 	movl	%r11d, 128(%rsp)
 	movl	$0, 132(%rsp)
 	leaq	2168(%rcx), %rax
 	addq	$2680, %rcx                     # imm = 0xA78
 	movq	%rax, 136(%rsp)
 	movq	%rcx, 144(%rsp)
-	pxor	%xmm0, %xmm0
-	movdqa	%xmm0, 176(%rsp)
 	leaq	(%rdi,%rbx), %rax
 	leaq	176(%rsp), %r14
 	movq	%r14, 72(%rsp)
@@ -11526,9 +11525,9 @@
 	callq	"deerlapse_0_1_0::aead_ciphers::aes_gcm::opening::authenticate::<#7bfdf0a6b4753edd>"
 	cmpb	$0, 159(%rsp)
 	je	.Ldeerlapse_0_1_0_BB33_8
-.Ldeerlapse_0_1_0_BB33_1:
+.Ldeerlapse_0_1_0_BB33_6:
 	xorl	%eax, %eax
-.Ldeerlapse_0_1_0_BB33_9:                               # %"deerlapse::key::deerlapse_key_open.exit"
+.Ldeerlapse_0_1_0_BB33_7:                               # %"deerlapse::key::deerlapse_key_open.exit"
                                         # kill: def $al killed $al killed $eax
 	addq	$208, %rsp
 	popq	%rbx
@@ -11548,7 +11547,7 @@
 	callq	"deerlapse_0_1_0::aead_ciphers::aes_gcm::counter_mode::encrypt_within::<#6fa349fe97f872a2>"
 	movq	%rax, (%r15)
 	movb	$1, %al
-	jmp	.Ldeerlapse_0_1_0_BB33_9
+	jmp	.Ldeerlapse_0_1_0_BB33_7
                                         # -- End function
 	.def	"deerlapse_0_1_0::key_derivation::hkdf::Expander::fill_okm::<#01e4f4eb65b1d8bb>";
 	.scl	3;
@@ -13941,45 +13940,47 @@ deerlapse_0_1_0_key_open:                     # @deerlapse_0_1_0_key_open
 	pushq	%rbp
 	pushq	%rbx
 	subq	$216, %rsp
-	movq	328(%rsp), %r11
 	movq	320(%rsp), %rsi
-	xorl	%r15d, %r15d
+	xorl	%r14d, %r14d
 	testq	%r8, %r8
 	sete	%r12b
-	xorl	%r14d, %r14d
+	xorl	%r11d, %r11d
 	testq	%rsi, %rsi
 	sete	%bpl
-	movl	1920(%rcx), %r10d
-	leal	-15(%r10), %eax
-	cmpl	$-5, %eax
-	setb	%al
-	cmpq	$16, %r11
-	setb	%bl
-	orb	%al, %bl
-	jne	.Ldeerlapse_0_1_0_BB57_1
+	movl	1920(%rcx), %eax
+	leal	-10(%rax), %r10d
+	cmpl	$4, %r10d
+	ja	.Ldeerlapse_0_1_0_BB57_6
+# %bb.1:                                # %join.3.i
+	movq	328(%rsp), %r15
+	cmpq	$16, %r15
+	jb	.Ldeerlapse_0_1_0_BB57_6
 # %bb.2:                                # %arm.1.i.i
-	leaq	-16(%r11), %rdi
-	movq	%rdi, %rax
-	subq	336(%rsp), %rax
-	jb	.Ldeerlapse_0_1_0_BB57_1
-# %bb.4:                                # %arm.8.i.i
+	leaq	-16(%r15), %rdi
+	movq	%rdi, %r10
+	subq	336(%rsp), %r10
+	jb	.Ldeerlapse_0_1_0_BB57_6
+# %bb.3:                                # %arm.8.i.i
 	movq	%r9, %r13
 	shrq	$61, %r13
 	setne	%r13b
 	movabsq	$68719476704, %rbx              # imm = 0xFFFFFFFE0
-	cmpq	%rbx, %rax
+	cmpq	%rbx, %r10
 	seta	%bl
 	orb	%r13b, %bl
-	jne	.Ldeerlapse_0_1_0_BB57_1
-# %bb.5:                                # %join.3.i.i.i.i
-	movb	%r12b, %r15b
-	shll	$12, %r15d
-	addq	%r15, %r8
-	movb	%bpl, %r14b
+	movq	336(%rsp), %r13
+	jne	.Ldeerlapse_0_1_0_BB57_6
+# %bb.4:                                # %join.3.i.i.i.i
+	movb	%r12b, %r14b
 	shll	$12, %r14d
-	addq	%r14, %rsi
-	addq	%rsi, %r11
+	addq	%r14, %r8
+	movb	%bpl, %r11b
+	shll	$12, %r11d
+	addq	%r11, %rsi
+	leaq	(%rsi,%r15), %r11
 	addq	$-16, %r11
+	xorps	%xmm0, %xmm0
+	movaps	%xmm0, 176(%rsp)
 	movl	8(%rdx), %ebx
 	movl	%ebx, 96(%rsp)
 	movq	(%rdx), %rdx
@@ -13990,21 +13991,18 @@ deerlapse_0_1_0_key_open:                     # @deerlapse_0_1_0_key_open
 	movl	1924(%rcx), %r11d
 	movq	%rcx, 104(%rsp)
 	movq	%rdx, 112(%rsp)
-	movq	%r10, 120(%rsp)
+	movq	%rax, 120(%rsp)
 	movl	%r11d, 128(%rsp)
 	movl	$0, 132(%rsp)
-	leaq	2168(%rcx), %rdx
+	leaq	2168(%rcx), %rax
 	addq	$2680, %rcx                     # imm = 0xA78
-	movq	%rdx, 136(%rsp)
+	movq	%rax, 136(%rsp)
 	movq	%rcx, 144(%rsp)
-	xorps	%xmm0, %xmm0
-	movaps	%xmm0, 176(%rsp)
-	movq	336(%rsp), %r15
-	leaq	(%rsi,%r15), %rcx
+	leaq	(%rsi,%r13), %rax
 	leaq	176(%rsp), %r14
 	movq	%r14, 72(%rsp)
-	movq	%rax, 64(%rsp)
-	movq	%rcx, 56(%rsp)
+	movq	%r10, 64(%rsp)
+	movq	%rax, 56(%rsp)
 	leaq	192(%rsp), %rax
 	movq	%rax, 48(%rsp)
 	movq	%r9, 40(%rsp)
@@ -14016,9 +14014,9 @@ deerlapse_0_1_0_key_open:                     # @deerlapse_0_1_0_key_open
 	callq	"deerlapse_0_1_0::aead_ciphers::aes_gcm::opening::authenticate::<#7bfdf0a6b4753edd>"
 	cmpb	$0, 159(%rsp)
 	je	.Ldeerlapse_0_1_0_BB57_8
-.Ldeerlapse_0_1_0_BB57_1:
+.Ldeerlapse_0_1_0_BB57_6:
 	xorl	%eax, %eax
-.Ldeerlapse_0_1_0_BB57_9:                               # %"deerlapse::key::deerlapse_key_open.exit"
+.Ldeerlapse_0_1_0_BB57_7:                               # %"deerlapse::key::deerlapse_key_open.exit"
                                         # kill: def $al killed $al killed $eax
 	addq	$216, %rsp
 	popq	%rbx
@@ -14034,14 +14032,14 @@ deerlapse_0_1_0_key_open:                     # @deerlapse_0_1_0_key_open
 	movq	344(%rsp), %rbx
 	leaq	160(%rsp), %rdx
 	movq	%r14, 40(%rsp)
-	movq	%r15, 32(%rsp)
+	movq	%r13, 32(%rsp)
 	leaq	104(%rsp), %rcx
 	movq	%rsi, %r8
 	movq	%rdi, %r9
 	callq	"deerlapse_0_1_0::aead_ciphers::aes_gcm::counter_mode::encrypt_within::<#6fa349fe97f872a2>"
 	movq	%rax, (%rbx)
 	movb	$1, %al
-	jmp	.Ldeerlapse_0_1_0_BB57_9
+	jmp	.Ldeerlapse_0_1_0_BB57_7
                                         # -- End function
 	.def	deerlapse_0_1_0_key_open_separate_tag;
 	.scl	2;
@@ -14096,6 +14094,8 @@ deerlapse_0_1_0_key_open_separate_tag:        # @deerlapse_0_1_0_key_open_separa
 	movb	%bpl, %r11b
 	shll	$12, %r11d
 	addq	%r11, %rdi
+	xorps	%xmm0, %xmm0
+	movaps	%xmm0, 176(%rsp)
 	movl	8(%rdx), %r9d
 	movl	%r9d, 96(%rsp)
 	movq	(%rdx), %rdx
@@ -14113,8 +14113,6 @@ deerlapse_0_1_0_key_open_separate_tag:        # @deerlapse_0_1_0_key_open_separa
 	addq	$2680, %rcx                     # imm = 0xA78
 	movq	%rax, 136(%rsp)
 	movq	%rcx, 144(%rsp)
-	xorps	%xmm0, %xmm0
-	movaps	%xmm0, 176(%rsp)
 	leaq	(%rdi,%rbx), %rax
 	leaq	176(%rsp), %r14
 	movq	%r14, 72(%rsp)
@@ -15257,12 +15255,11 @@ deerlapse_0_1_0_quic_key_open:                # @deerlapse_0_1_0_quic_key_open
 # %bb.0:                                # %start
 	pushq	%r15
 	pushq	%r14
-	pushq	%r12
 	pushq	%rsi
 	pushq	%rdi
 	pushq	%rbp
 	pushq	%rbx
-	subq	$208, %rsp
+	subq	$216, %rsp
 	movq	304(%rsp), %rsi
 	xorl	%r10d, %r10d
 	testq	%r8, %r8
@@ -15272,47 +15269,46 @@ deerlapse_0_1_0_quic_key_open:                # @deerlapse_0_1_0_quic_key_open
 	sete	%r11b
 	movq	%rdx, %rdi
 	shrq	$62, %rdi
-	jne	.Ldeerlapse_0_1_0_BB67_1
+	jne	.Ldeerlapse_0_1_0_BB67_7
 # %bb.2:                                # %join.3.i
-	movq	312(%rsp), %rdi
 	bswapq	%rdx
+	movl	%edx, %edi
+	shrl	$24, %edi
 	movl	%edx, %ebp
-	shrl	$24, %ebp
-	movl	%edx, %r14d
-	shrl	$16, %r14d
+	shrl	$16, %ebp
 	movd	3196(%rcx), %xmm0               # xmm0 = mem[0],zero,zero,zero
 	movd	%edx, %xmm1
-	movl	%edx, %r15d
-	shrl	$8, %r15d
-	pinsrb	$1, %r15d, %xmm1
-	pinsrb	$2, %r14d, %xmm1
-	pinsrb	$3, %ebp, %xmm1
+	movl	%edx, %r14d
+	shrl	$8, %r14d
+	pinsrb	$1, %r14d, %xmm1
+	pinsrb	$2, %ebp, %xmm1
+	pinsrb	$3, %edi, %xmm1
 	pxor	%xmm0, %xmm1
 	movd	3192(%rcx), %xmm0               # xmm0 = mem[0],zero,zero,zero
 	punpckldq	%xmm1, %xmm0            # xmm0 = xmm0[0],xmm1[0],xmm0[1],xmm1[1]
 	movq	%xmm0, 88(%rsp)
+	movq	%rdx, %rdi
+	shrq	$56, %rdi
 	movq	%rdx, %r14
-	shrq	$56, %r14
+	shrq	$48, %r14
 	movq	%rdx, %r15
-	shrq	$48, %r15
-	movq	%rdx, %r12
-	shrq	$40, %r12
+	shrq	$40, %r15
 	shrq	$32, %rdx
 	movd	%edx, %xmm0
-	pinsrb	$1, %r12d, %xmm0
-	pinsrb	$2, %r15d, %xmm0
+	pinsrb	$1, %r15d, %xmm0
+	pinsrb	$2, %r14d, %xmm0
 	movd	3200(%rcx), %xmm1               # xmm1 = mem[0],zero,zero,zero
-	pinsrb	$3, %r14d, %xmm0
+	pinsrb	$3, %edi, %xmm0
 	pxor	%xmm1, %xmm0
 	movd	%xmm0, 96(%rsp)
 	movl	1920(%rcx), %edx
-	leal	-15(%rdx), %ebp
-	cmpl	$-5, %ebp
-	setb	%bpl
+	leal	-10(%rdx), %edi
+	cmpl	$4, %edi
+	ja	.Ldeerlapse_0_1_0_BB67_7
+# %bb.3:                                # %join.3.i.i
+	movq	312(%rsp), %rdi
 	cmpq	$16, %rdi
-	setb	%r14b
-	orb	%bpl, %r14b
-	jne	.Ldeerlapse_0_1_0_BB67_1
+	jb	.Ldeerlapse_0_1_0_BB67_7
 # %bb.4:                                # %arm.1.i.i.i
 	addq	$-16, %rdi
 	movq	%r9, %r14
@@ -15322,7 +15318,7 @@ deerlapse_0_1_0_quic_key_open:                # @deerlapse_0_1_0_quic_key_open
 	cmpq	%r14, %rdi
 	seta	%r14b
 	orb	%bpl, %r14b
-	jne	.Ldeerlapse_0_1_0_BB67_1
+	jne	.Ldeerlapse_0_1_0_BB67_7
 # %bb.5:                                # %join.3.i.i.i.i.i
 	movb	%bl, %r10b
 	shll	$12, %r10d
@@ -15330,6 +15326,8 @@ deerlapse_0_1_0_quic_key_open:                # @deerlapse_0_1_0_quic_key_open
 	movb	%r11b, %al
 	shll	$12, %eax
 	addq	%rax, %rsi
+	pxor	%xmm0, %xmm0
+	movdqa	%xmm0, 176(%rsp)
 	movdqu	(%rsi,%rdi), %xmm0
 	movdqa	%xmm0, 192(%rsp)
 	leaq	1928(%rcx), %rax
@@ -15343,8 +15341,6 @@ deerlapse_0_1_0_quic_key_open:                # @deerlapse_0_1_0_quic_key_open
 	addq	$2680, %rcx                     # imm = 0xA78
 	movq	%rax, 136(%rsp)
 	movq	%rcx, 144(%rsp)
-	pxor	%xmm0, %xmm0
-	movdqa	%xmm0, 176(%rsp)
 	leaq	176(%rsp), %rbx
 	movq	%rbx, 72(%rsp)
 	movq	%rdi, 64(%rsp)
@@ -15359,21 +15355,20 @@ deerlapse_0_1_0_quic_key_open:                # @deerlapse_0_1_0_quic_key_open
 	leaq	88(%rsp), %r9
 	callq	"deerlapse_0_1_0::aead_ciphers::aes_gcm::opening::authenticate::<#7bfdf0a6b4753edd>"
 	cmpb	$0, 159(%rsp)
-	je	.Ldeerlapse_0_1_0_BB67_8
-.Ldeerlapse_0_1_0_BB67_1:
+	je	.Ldeerlapse_0_1_0_BB67_9
+.Ldeerlapse_0_1_0_BB67_7:
 	xorl	%eax, %eax
-.Ldeerlapse_0_1_0_BB67_9:                               # %"deerlapse::quic_key::deerlapse_quic_key_open.exit"
+.Ldeerlapse_0_1_0_BB67_8:                               # %"deerlapse::quic_key::deerlapse_quic_key_open.exit"
                                         # kill: def $al killed $al killed $eax
-	addq	$208, %rsp
+	addq	$216, %rsp
 	popq	%rbx
 	popq	%rbp
 	popq	%rdi
 	popq	%rsi
-	popq	%r12
 	popq	%r14
 	popq	%r15
 	retq
-.Ldeerlapse_0_1_0_BB67_8:                               # %arm.4.i.i
+.Ldeerlapse_0_1_0_BB67_9:                               # %arm.4.i.i
 	movq	320(%rsp), %r14
 	leaq	160(%rsp), %rdx
 	movq	%rbx, 40(%rsp)
@@ -15384,7 +15379,7 @@ deerlapse_0_1_0_quic_key_open:                # @deerlapse_0_1_0_quic_key_open
 	callq	"deerlapse_0_1_0::aead_ciphers::aes_gcm::counter_mode::encrypt_within::<#6fa349fe97f872a2>"
 	movq	%rax, (%r14)
 	movb	$1, %al
-	jmp	.Ldeerlapse_0_1_0_BB67_9
+	jmp	.Ldeerlapse_0_1_0_BB67_8
                                         # -- End function
 	.def	deerlapse_0_1_0_quic_key_seal;
 	.scl	2;
@@ -15520,14 +15515,16 @@ deerlapse_0_1_0_record_key_open:              # @deerlapse_0_1_0_record_key_open
 	movb	%bh, 86(%rsp)
 	movb	%bl, 87(%rsp)
 	movl	1920(%rcx), %edx
-	leal	-15(%rdx), %r9d
-	cmpl	$-5, %r9d
-	jb	.Ldeerlapse_0_1_0_BB69_1
-# %bb.4:                                # %join.3.i.i.i.i.i
+	leal	-10(%rdx), %r9d
+	cmpl	$4, %r9d
+	ja	.Ldeerlapse_0_1_0_BB69_1
+# %bb.3:                                # %join.3.i.i.i.i.i
 	movb	%al, %dil
 	shll	$12, %edi
 	movq	%r8, %r14
 	leaq	(%r8,%rdi), %rsi
+	pxor	%xmm0, %xmm0
+	movdqa	%xmm0, 176(%rsp)
 	movdqu	-16(%rsi,%rbx), %xmm0
 	addq	$-16, %rbx
 	movdqa	%xmm0, 192(%rsp)
@@ -15542,8 +15539,6 @@ deerlapse_0_1_0_record_key_open:              # @deerlapse_0_1_0_record_key_open
 	addq	$2680, %rcx                     # imm = 0xA78
 	movq	%rax, 136(%rsp)
 	movq	%rcx, 144(%rsp)
-	pxor	%xmm0, %xmm0
-	movdqa	%xmm0, 176(%rsp)
 	leaq	176(%rsp), %r15
 	movq	%r15, 72(%rsp)
 	movq	%rbx, 64(%rsp)
@@ -15901,89 +15896,87 @@ deerlapse_0_1_0_open:                         # @deerlapse_0_1_0_open
 	je	.Ldeerlapse_0_1_0_BB72_3
 # %bb.1:                                # %start
 	cmpq	$16, %r15
-	jne	.Ldeerlapse_0_1_0_BB72_5
+	jne	.Ldeerlapse_0_1_0_BB72_11
 # %bb.2:                                # %join.3.fold.split.i.i.i.i
 	xorl	%edx, %edx
 	jmp	.Ldeerlapse_0_1_0_BB72_4
 .Ldeerlapse_0_1_0_BB72_3:
 	movb	$1, %dl
 .Ldeerlapse_0_1_0_BB72_4:                               # %then.1.i.i
-	movq	3536(%rsp), %r15
 	movb	%bl, %bpl
 	shll	$12, %ebp
 	addq	%rbp, %r14
 	xorps	%xmm0, %xmm0
 	movaps	%xmm0, 96(%rsp)
-	leaq	224(%rsp), %rbx
+	leaq	224(%rsp), %r15
 	leaq	96(%rsp), %r9
-	movq	%rbx, %rcx
+	movq	%r15, %rcx
                                         # kill: def $dl killed $dl killed $edx
 	movq	%r14, %r8
 	callq	"deerlapse_0_1_0::aead_ciphers_wide::aes_gcm::ExpandedKey::expand_with_width"
 	movl	2144(%rsp), %eax
-	leal	-15(%rax), %ecx
-	cmpl	$-5, %ecx
-	setb	%cl
-	cmpq	$16, %r15
-	setb	%dl
-	orb	%cl, %dl
-	jne	.Ldeerlapse_0_1_0_BB72_5
+	leal	-10(%rax), %ecx
+	cmpl	$4, %ecx
+	ja	.Ldeerlapse_0_1_0_BB72_11
+# %bb.5:                                # %join.3.i.i.i
+	movq	3536(%rsp), %r8
+	cmpq	$16, %r8
+	jb	.Ldeerlapse_0_1_0_BB72_11
 # %bb.6:                                # %arm.1.i.i.i.i
 	movq	3544(%rsp), %rbp
-	leaq	-16(%r15), %r14
-	movq	%r14, %rdx
-	subq	%rbp, %rdx
-	jb	.Ldeerlapse_0_1_0_BB72_5
-# %bb.9:                                # %arm.8.i.i.i.i
-	movq	3520(%rsp), %rcx
-	movq	%rcx, %r8
-	shrq	$61, %r8
-	setne	%r8b
-	movabsq	$68719476704, %r9               # imm = 0xFFFFFFFE0
-	cmpq	%r9, %rdx
-	seta	%r9b
-	orb	%r8b, %r9b
-	jne	.Ldeerlapse_0_1_0_BB72_5
-# %bb.10:                               # %join.3.i.i.i.i.i.i
-	movzbl	94(%rsp), %r8d                  # 1-byte Folded Reload
-	movb	%r8b, %r13b
+	leaq	-16(%r8), %r14
+	movq	%r14, %rcx
+	subq	%rbp, %rcx
+	jb	.Ldeerlapse_0_1_0_BB72_11
+# %bb.7:                                # %arm.8.i.i.i.i
+	movq	3520(%rsp), %rdx
+	movq	%rdx, %r9
+	shrq	$61, %r9
+	setne	%r9b
+	movabsq	$68719476704, %r10              # imm = 0xFFFFFFFE0
+	cmpq	%r10, %rcx
+	seta	%r10b
+	orb	%r9b, %r10b
+	jne	.Ldeerlapse_0_1_0_BB72_11
+# %bb.8:                                # %join.3.i.i.i.i.i.i
+	movzbl	94(%rsp), %r9d                  # 1-byte Folded Reload
+	movb	%r9b, %r13b
 	shll	$12, %r13d
 	addq	%r13, %rdi
-	movzbl	95(%rsp), %r8d                  # 1-byte Folded Reload
-	movb	%r8b, %r12b
+	movzbl	95(%rsp), %r9d                  # 1-byte Folded Reload
+	movb	%r9b, %r12b
 	shll	$12, %r12d
 	addq	%r12, %rsi
-	leaq	2152(%rsp), %r8
-	leaq	2392(%rsp), %r9
-	leaq	2904(%rsp), %r10
-	leaq	(%rsi,%r15), %r11
-	addq	$-16, %r11
-	movq	128(%rsp), %r15                 # 8-byte Reload
-	movq	%rbx, %r12
-	movl	8(%r15), %ebx
-	movl	%ebx, 144(%rsp)
-	movq	(%r15), %rbx
-	movq	%rbx, 136(%rsp)
-	movups	(%r11), %xmm0
-	movaps	%xmm0, 208(%rsp)
-	movl	2148(%rsp), %r11d
-	movq	%r12, 96(%rsp)
-	movq	%r8, 104(%rsp)
-	movq	%rax, 112(%rsp)
-	movl	%r11d, 120(%rsp)
-	movl	$0, 124(%rsp)
-	movq	%r9, 152(%rsp)
-	movq	%r10, 160(%rsp)
+	leaq	2152(%rsp), %r9
+	leaq	2392(%rsp), %r10
+	leaq	2904(%rsp), %r11
+	addq	%rsi, %r8
+	addq	$-16, %r8
 	xorps	%xmm0, %xmm0
 	movaps	%xmm0, 192(%rsp)
+	movq	128(%rsp), %r12                 # 8-byte Reload
+	movl	8(%r12), %ebx
+	movl	%ebx, 144(%rsp)
+	movq	(%r12), %rbx
+	movq	%rbx, 136(%rsp)
+	movups	(%r8), %xmm0
+	movaps	%xmm0, 208(%rsp)
+	movl	2148(%rsp), %r8d
+	movq	%r15, 96(%rsp)
+	movq	%r9, 104(%rsp)
+	movq	%rax, 112(%rsp)
+	movl	%r8d, 120(%rsp)
+	movl	$0, 124(%rsp)
+	movq	%r10, 152(%rsp)
+	movq	%r11, 160(%rsp)
 	leaq	(%rsi,%rbp), %rax
 	leaq	192(%rsp), %rbx
 	movq	%rbx, 72(%rsp)
-	movq	%rdx, 64(%rsp)
+	movq	%rcx, 64(%rsp)
 	movq	%rax, 56(%rsp)
 	leaq	208(%rsp), %rax
 	movq	%rax, 48(%rsp)
-	movq	%rcx, 40(%rsp)
+	movq	%rdx, 40(%rsp)
 	movq	%rdi, 32(%rsp)
 	leaq	175(%rsp), %rcx
 	leaq	96(%rsp), %rdx
@@ -15992,9 +15985,9 @@ deerlapse_0_1_0_open:                         # @deerlapse_0_1_0_open
 	callq	"deerlapse_0_1_0::aead_ciphers::aes_gcm::opening::authenticate::<#7bfdf0a6b4753edd>"
 	cmpb	$0, 175(%rsp)
 	je	.Ldeerlapse_0_1_0_BB72_13
-.Ldeerlapse_0_1_0_BB72_5:
+.Ldeerlapse_0_1_0_BB72_11:                              # %"deerlapse::key::expand.exit.i.i"
 	xorl	%eax, %eax
-.Ldeerlapse_0_1_0_BB72_14:                              # %"deerlapse::aes_gcm::deerlapse_open.exit"
+.Ldeerlapse_0_1_0_BB72_12:                              # %"deerlapse::aes_gcm::deerlapse_open.exit"
                                         # kill: def $al killed $al killed $eax
 	addq	$3416, %rsp                     # imm = 0xD58
 	popq	%rbx
@@ -16017,7 +16010,7 @@ deerlapse_0_1_0_open:                         # @deerlapse_0_1_0_open
 	callq	"deerlapse_0_1_0::aead_ciphers::aes_gcm::counter_mode::encrypt_within::<#6fa349fe97f872a2>"
 	movq	%rax, (%rdi)
 	movb	$1, %al
-	jmp	.Ldeerlapse_0_1_0_BB72_14
+	jmp	.Ldeerlapse_0_1_0_BB72_12
                                         # -- End function
 	.def	deerlapse_0_1_0_seal;
 	.scl	2;
