@@ -1,5 +1,6 @@
 //! Tests of the five calls that return the plaintext as a mutable slice: the contents of the buffer once the borrow ends.
-//! The two callers with contracts show what a caller's proof learns from the contracts of the calls.
+//! The two callers with contracts, over any expanded key, show what a
+//! caller's proof learns from the contracts of the calls.
 
 ghost use Rattle.std.specs.Prelude.{◌≡◌, IsFalse};
 ghost use Rattle.aead_ciphers.specs.Aes.{aes};
@@ -8,7 +9,9 @@ ghost use Rattle.aead_ciphers.specs.Values.{aad_bytes};
 
 use crate::tests::cases::{aad, key, nonce, opening_once, sealed};
 use crate::tests::checks::{holds, same};
-use aead_ciphers::aead::{Aad, LessSafeKey, Nonce, Tag, Unspecified};
+use aead_ciphers::aead::generic::LessSafeKey;
+use aead_ciphers::aead::{Aad, Nonce, Tag, Unspecified};
+use aead_ciphers::aes_gcm::GcmKey;
 use aead_vectors::gcm_spec::{CASE_4, Case};
 use std::alloc::Global;
 use std::ops::RangeFrom;
@@ -16,8 +19,8 @@ use std::process::Abort;
 use std::test::Fail;
 
 /// Opens a message, and ends the borrow of the plaintext. The contract describes every byte of the buffer.
-fn opens(
-    key: &LessSafeKey,
+fn opens<K: GcmKey>(
+    key: &LessSafeKey<K>,
     nonce: Nonce,
     aad: Aad<'_>,
     in_out: &mut [u8],
@@ -34,8 +37,8 @@ fn opens(
 }
 
 /// Like `opens`, but with the call that returns the length of the plaintext.
-fn opens_to_front(
-    key: &LessSafeKey,
+fn opens_to_front<K: GcmKey>(
+    key: &LessSafeKey<K>,
     nonce: Nonce,
     aad: Aad<'_>,
     in_out: &mut [u8],
