@@ -1,5 +1,6 @@
 -- The round keys of a key, the key with which they begin, and their planes.
-use Rattle.std.proofs.Common.{◌≡◌, ℕ, ◌+◌, ◌-◌, ◌*◌, ◌/◌, ◌%◌, ◌≤◌, List, [], length, sym, ◌∙◌, ap, ap₂, arith, slice_index, slice_index_or, ◌<◌, set, subst, below_more, get_or-set_same, get_or-set_other}
+use Rattle.std.proofs.Common.{◌≡◌, ℕ, ◌+◌, ◌-◌, ◌*◌, ◌/◌, ◌%◌, ◌≤◌, List, [], drop, get_or-drop, get_or-take, inl, inr, length, length-take-le, take, sym, ◌∙◌, ap, ap₂, arith, slice_index, slice_index_or, ◌<◌, set, subst, below_more, get_or-set_same, get_or-set_other}
+use Rattle.std.proofs.lemmas.Bool.{cases_lt}
 use Rattle.std.proofs.lemmas.List.FromFn.{fill_by_all}
 use Rattle.aead_ciphers_base.specs.Aes.{at, word_at, key_words, cipher, aes}
 use Rattle.aead_ciphers_base.specs.Planes.{HoldsRound}
@@ -48,6 +49,27 @@ module _ (key : List ℕ) (round_keys : List (List ℕ)) (nk : ℕ) (len : lengt
         ∙ ap₂ (λ t k. word_at (key_words t k (4 * (nk + 7) - nk)) (4 * j + c)) n (sym key_of_is)
         ∙ ap (λ m. word_at (key_words (nk + 6 - 6) (key_of round_keys (nk + 6)) m) (4 * j + c)) count;
   }
+
+-- the key is what the first two round keys begin with, one after the other
+pub key_in_front : (round_keys : List (List ℕ)) (rounds : ℕ) (front : List ℕ) → rounds ≤ 14 → length front ≡ 32
+    → take 16 front ≡ key_at round_keys 0 → drop 16 front ≡ key_at round_keys 1 → take (4 * (rounds - 6)) front ≡ key_of round_keys rounds
+unfolding key_of
+key_in_front round_keys rounds front most long first second =
+    let n = 4 * (rounds - 6) in
+    fill_by_all (λ j. slice_index (key_at round_keys (j / 16)) (j % 16)) (take n front) n 0 (length-take-le n front (omega (arith, long)))
+    (λ j lt. get_or-take n front j 0 lt ∙ elim (cases_lt j 16) [
+      | inl early ↦
+          let row : 0 ≡ j / 16 = omega arith in
+          let place : j ≡ j % 16 = omega arith in
+          sym (get_or-take 16 front j 0 early) ∙ ap (λ l. slice_index l j) first
+          ∙ ap₂ (λ r k. slice_index (key_at round_keys r) k) row place
+      | inr late ↦
+          let row : 1 ≡ j / 16 = omega arith in
+          let place : j - 16 ≡ j % 16 = omega arith in
+          let whole : j ≡ 16 + (j - 16) = omega arith in
+          ap (slice_index front) whole ∙ sym (get_or-drop 16 front (j - 16) 0) ∙ ap (λ l. slice_index l (j - 16)) second
+          ∙ ap₂ (λ r k. slice_index (key_at round_keys r) k) row place
+    ])
 
 -- the cipher under the words of a schedule is AES under its key
 pub aes_of_schedule : (round_keys : List (List ℕ)) (rounds : ℕ) (b : List ℕ) → 10 ≤ rounds

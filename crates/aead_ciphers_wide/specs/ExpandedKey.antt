@@ -2,7 +2,7 @@
 use Rattle.std.specs.Prelude.{◌≡◌, ℕ, ◌+◌, List, replicate}
 use Rattle.aead_ciphers_base.specs.Aes.{aes}
 use Rattle.aead_ciphers_base.specs.Bytes.{zero_block}
-use Rattle.aead_ciphers_wide.specs.WideSchedule.{HoldsPlanes, IsSchedule, key_of}
+use Rattle.aead_ciphers_wide.specs.WideSchedule.{AreZerosAfter, HoldsPlanes, IsSchedule, key_of}
 use Rattle.aead_ciphers_wide.specs.Products.{ArePowers, subkey as products_subkey}
 use Rattle.aead_ciphers_wide.specs.declared.aes_gcm.ExpandedKey.{ExpandedKey}
 
@@ -17,6 +17,11 @@ pub record IsExpanded (key : ExpandedKey) : Type 0 where
   pub planes : HoldsPlanes key.planes key.round_keys (key.rounds + 1)
   pub subkey : products_subkey key.products ≡ aes (bytes_of key) zero_block
   pub products : ArePowers key.products key.squares
+
+-- the places after the last round key and after its planes, which a key of fewer rounds doesn't use, are zeros
+pub record HasZerosAfter (key : ExpandedKey) : Type 0 where
+  pub round_keys : AreZerosAfter key.round_keys key.rounds
+  pub planes : AreZerosAfter key.planes key.rounds
 
 -- the fields before a key is expanded: all zeros, which no key has
 abbrev pub zero_key : ExpandedKey

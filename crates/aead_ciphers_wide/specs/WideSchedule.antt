@@ -1,5 +1,5 @@
 -- Round keys as blocks, and as the planes that a pass over eight blocks adds (FIPS 197 section 5.2).
-use Rattle.std.specs.Prelude.{ℕ, ◌+◌, ◌-◌, ◌*◌, ◌/◌, ◌%◌, ◌^◌, ◌≡◌, ◌<◌, ◌≤◌, List, [], slice_index, slice_index_or}
+use Rattle.std.specs.Prelude.{ℕ, ◌+◌, ◌-◌, ◌*◌, ◌/◌, ◌%◌, ◌^◌, ◌≡◌, ◌<◌, ◌≤◌, List, [], replicate, slice_index, slice_index_or}
 use Rattle.aead_ciphers_base.specs.Bytes.{each_below}
 use Rattle.aead_ciphers_base.specs.Aes.{at, word_at, key_words}
 use Rattle.aead_ciphers_base.specs.Planes.{plane_byte}
@@ -29,6 +29,10 @@ pub record IsSchedule (round_keys : List (List ℕ)) (rounds : ℕ) : Type 0 whe
   pub enough : 10 ≤ rounds
   pub in_range : rounds ≤ 14
   pub expanded : HoldsWords round_keys (schedule_words round_keys rounds) (rounds + 1)
+
+-- of 15 places for round keys, or for the planes of each, those that a key of so many rounds doesn't use are zeros
+abbrev pub AreZerosAfter : List (List ℕ) → ℕ → Type 0
+AreZerosAfter rows rounds = (j : ℕ) → rounds < j → j < 15 → slice_index_or rows j [] ≡ replicate 16 0
 
 -- plane b of a round key: the number of 128 bits in two of its words, the lower word first
 abbrev pub plane_of : List ℕ → ℕ → ℕ

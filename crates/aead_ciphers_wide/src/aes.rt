@@ -8,7 +8,7 @@ ghost use Rattle.std.specs.Prelude.{◌≡◌, ◌+◌, IsOk, IfOk};
 ghost use Rattle.aead_ciphers_base.specs.Aes.{aes, length_aes};
 ghost use Rattle.aead_ciphers_base.specs.KeyBytes.{key_bytes};
 ghost use Rattle.aead_ciphers_base.specs.Mask.{aes_mask};
-ghost use Rattle.aead_ciphers_wide.specs.WideSchedule.{HoldsPlanes, IsSchedule, key_of};
+ghost use Rattle.aead_ciphers_wide.specs.WideSchedule.{AreZerosAfter, HoldsPlanes, IsSchedule, key_of};
 ghost use Rattle.aead_ciphers_wide.specs.Width.{width_bits};
 
 use aead_ciphers_base::aes::{
@@ -30,6 +30,7 @@ mod round_keys;
 mod transpose;
 
 pub use block_key::{BlockKey, BlockKeyRef};
+pub(crate) use round_keys::joined;
 pub use round_keys::{RoundKeys, RoundPlanes, write_planes};
 
 /// The width of the planes on which a key encrypts batches of blocks. It changes no result.
@@ -134,11 +135,12 @@ impl Key {
     }
 }
 
-/// Expands a key of 16 or 32 bytes (FIPS 197 section 5.2): writes its round keys to `round_keys`, and
+/// Expands a key of 16 or 32 bytes (FIPS 197 section 5.2): writes its round keys to `round_keys`, and zeros after them, and
 /// returns the number of its rounds, 10 or 14.
 pub fn expand(round_keys: &mut RoundKeys, bytes: KeyBytes<'_>) -> usize
     ensures schedule { IsSchedule round_keys.new result }
     ensures bytes { key_of round_keys.new result ≡ key_bytes bytes.entry }
+    ensures unused { AreZerosAfter round_keys.new result }
 {
     let key = bytes.as_slice();
     let rounds = key.len() / 4 + 6;

@@ -1,13 +1,13 @@
 //! An expanded AES-GCM key as plain data, for memory that the library does not own: a C struct, or a table of keys.
 
-ghost use Rattle.std.specs.Prelude.{◌≡◌, ◌+◌, ◌-◌, ◌↔◌, ℕ, List, [], length, is_ok, IsOk, IfOk, OnOk, OnErr};
+ghost use Rattle.std.specs.Prelude.{◌≡◌, ◌+◌, ◌-◌, ◌↔◌, ℕ, List, [], length, replicate, is_ok, IsTrue, IsOk, IfOk, OnOk, OnErr};
 ghost use Rattle.aead_ciphers_base.specs.Aes.{aes as aes_cipher};
 ghost use Rattle.aead_ciphers_base.specs.Bytes.{zero_block};
 ghost use Rattle.aead_ciphers_base.specs.KeyBytes.{key_bytes};
 ghost use Rattle.aead_ciphers_base.specs.Mask.{aes_mask};
 ghost use Rattle.aead_ciphers_base.specs.Values.{aad_bytes};
 ghost use Rattle.aead_ciphers_base.specs.Work.{Adds, CanAdd};
-ghost use Rattle.aead_ciphers_wide.specs.ExpandedKey.{IsExpanded, bytes_of, zero_key};
+ghost use Rattle.aead_ciphers_wide.specs.ExpandedKey.{HasZerosAfter, IsExpanded, bytes_of, zero_key};
 ghost use Rattle.aead_ciphers_wide.specs.Pieces.{HasSealed, SealsPiece, joined};
 ghost use Rattle.aead_ciphers_wide.specs.Width.{width_bits};
 ghost use Rattle.aead_ciphers.specs.Gcm.{CanSeal, Fits, SealWork, Opened, OpenedAttached, gcm_decrypted, gcm_encrypted, gcm_tag};
@@ -19,6 +19,7 @@ use crate::{aes, gcm};
 use aead_ciphers::aes_gcm::{GcmKey, open_to_with, open_with, seal_with};
 use aead_ciphers::gcm::fits;
 use aead_ciphers_base::aes::{EncryptBlock, KeyBytes, Work, ZERO_BLOCK};
+use aead_ciphers_base::bb;
 use aead_ciphers_base::error::Unspecified;
 use aead_ciphers_base::values::{Aad, MAX_TAG_LEN, Nonce, Sample, Tag};
 pub use pieces::SealState;
@@ -47,12 +48,14 @@ pub struct ExpandedKey {
 }
 
 impl ExpandedKey {
-    /// Does the same as `expand`, whose planes have 128 bits, with planes of this width.
+    /// Does the same as `expand`, whose planes have 128 bits, with planes of this width. No byte of a key that was there before
+    /// stays.
     pub fn expand_with_width(&mut self, bytes: KeyBytes<'_>, width: Width, work: &mut Work)
         requires { CanAdd work.old 1 0 }
         ensures expanded { IsExpanded self.new }
         ensures bytes { bytes_of self.new ≡ key_bytes bytes.entry }
         ensures width { self.new.width ≡ width_bits width }
+        ensures unused { HasZerosAfter self.new }
         ensures worked { Adds work.old work.new 1 0 }
     {
         let rounds = aes::expand(&mut self.round_keys, bytes);
@@ -62,6 +65,16 @@ impl ExpandedKey {
         let aes = aes::BlockKeyRef::new(&self.round_keys, rounds);
         let subkey = aes.encrypt_block(ZERO_BLOCK, work);
         gcm::expand(&mut self.products, &mut self.squares, subkey);
+    }
+
+    /// Returns whether this is a key of these bytes.
+    pub fn is_of(&self, bytes: &[u8]) -> bool
+        requires { IsExpanded self.now }
+        ensures { IsTrue result ↔ (bytes_of self.now ≡ bytes.now) }
+    {
+        let len = 4 * (self.rounds as usize - 6);
+        let front = aes::joined(self.round_keys[0], self.round_keys[1]);
+        bb::verify_slices_are_equal(&front[..len], bytes).is_ok()
     }
 
     /// Borrows the AES key.
@@ -129,6 +142,7 @@ impl ExpandedKey {
         ensures accepted { IsOk result ↔ Fits (length (aad_bytes aad.entry)) 0 }
         ensures begun { IfOk result (λ state. HasSealed (aes_cipher (bytes_of self.now)) nonce
             (aad_bytes aad.entry) [] [] state) }
+        ensures cleared { IfOk result (λ state. state.batch ≡ replicate 128 0) }
     {
         let gcm = self.gcm();
         SealState::begin_with(&gcm, nonce, aad)
@@ -144,6 +158,7 @@ impl ExpandedKey {
         ensures accepted { IsOk result ↔ Fits (length (joined aad.now)) 0 }
         ensures begun { IfOk result (λ state. HasSealed (aes_cipher (bytes_of self.now)) nonce
             (joined aad.now) [] [] state) }
+        ensures cleared { IfOk result (λ state. state.batch ≡ replicate 128 0) }
     {
         let gcm = self.gcm();
         SealState::begin_with_parts(&gcm, nonce, aad)

@@ -1,7 +1,7 @@
 -- The keys of AES (FIPS 197) that the calls take, and the messages that are sealed in pieces under them.
 use Rattle.std.specs.Prelude.{◌≡◌, ℕ, ◌⊎◌, ◌<◌, ◌≤◌, ◌↔◌, Bool, List, length, IsTrue, IsFalse}
 use Rattle.aead_ciphers.specs.Gcm.{Fits}
-use Rattle.aead_ciphers_wide.specs.ExpandedKey.{IsExpanded, bytes_of, zero_key}
+use Rattle.aead_ciphers_wide.specs.ExpandedKey.{HasZerosAfter, IsExpanded, bytes_of, zero_key}
 use Rattle.aead_ciphers_wide.specs.declared.aes_gcm.ExpandedKey.{ExpandedKey}
 use Rattle.aead_ciphers_wide.specs.declared.aes_gcm.pieces.SealState.{SealState}
 
@@ -23,6 +23,7 @@ pub record ExpandsKey (bits : ℕ) (bytes : List ℕ) (result : Bool) (now : Exp
   pub accepted : IsTrue result ↔ IsAesKeyLen (length bytes)
   pub made : IsTrue result → IsExpanded now × (bytes_of now ≡ bytes)
   pub width : IsTrue result → now.width ≡ bits
+  pub unused : IsTrue result → HasZerosAfter now
   pub refused : IsFalse result → now ≡ zero_key
 
 -- a message that `deerlapse_key_begin` began, or one of zeros

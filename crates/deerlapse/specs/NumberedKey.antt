@@ -1,7 +1,7 @@
 -- A `NumberedKey`, which is a sealer or an opener, as contracts see it.
 use Rattle.std.specs.Prelude.{◌≡◌, ℕ, ◌≤◌, ◌↔◌, Bool, List, length, replicate, IsTrue, IsFalse}
 use Rattle.aead_ciphers.specs.Counting.{xored_nonce}
-use Rattle.aead_ciphers_wide.specs.ExpandedKey.{IsExpanded, bytes_of, zero_key}
+use Rattle.aead_ciphers_wide.specs.ExpandedKey.{HasZerosAfter, IsExpanded, bytes_of, zero_key}
 use Rattle.deerlapse.specs.AesKey.{IsAesKeyLen}
 use Rattle.deerlapse.specs.declared.numbered_key.NumberedKey.{NumberedKey}
 
@@ -24,6 +24,7 @@ pub record InitializesNumberedKey (bits : ℕ) (bytes iv : List ℕ) (first limi
   pub accepted : IsTrue result ↔ (IsAesKeyLen (length bytes) × (first ≤ limit))
   pub key : IsTrue result → IsExpanded now.key × (key_of now ≡ bytes)
   pub width : IsTrue result → now.key.width ≡ bits
+  pub unused : IsTrue result → HasZerosAfter now.key
   pub iv_is : IsTrue result → now.iv ≡ iv
   pub numbers : IsTrue result → (now.next ≡ first) × (now.limit ≡ limit)
   pub room : IsTrue result → now.room ≡ replicate 220 0

@@ -1,6 +1,6 @@
 -- A `TrafficKey`, which protects the packets or the records of one direction of a connection, and the secrets that give it.
 use Rattle.std.specs.Prelude.{◌≡◌, ◌≢◌, ℕ, ◌⊎◌, ◌==◌, ◌≤◌, ◌+◌, ◌^◌, ◌↔◌, if◌then◌else◌, Bool, List, length, take, replicate, IsTrue, IsFalse, IsSome, IfSome}
-use Rattle.aead_ciphers_wide.specs.ExpandedKey.{IsExpanded, bytes_of, zero_key}
+use Rattle.aead_ciphers_wide.specs.ExpandedKey.{HasZerosAfter, IsExpanded, bytes_of, zero_key}
 use Rattle.aead_ciphers_wide.specs.declared.aes_gcm.ExpandedKey.{ExpandedKey}
 use Rattle.key_derivation.specs.Hash.{HashFunction}
 use Rattle.key_derivation.specs.Quic.{QuicSecretState, numbered_version, quic_header_key, quic_iv, quic_key}
@@ -34,6 +34,7 @@ quic_secret_of bytes version = record { version = version; secret = secret_of by
 pub record IsTrafficKey (bits : ℕ) (key : TrafficKey) (bytes iv : List ℕ) : Type 0 where
   pub expanded : IsExpanded key.key
   pub width : key.key.width ≡ bits
+  pub unused : HasZerosAfter key.key
   pub bytes_are : bytes_of key.key ≡ bytes
   pub iv_is : key.iv ≡ iv
   pub zeros : key.room ≡ replicate 4 0
@@ -43,8 +44,11 @@ abbrev pub IsPacketKey : ℕ → TrafficKey → QuicSecretState → Type 0
 IsPacketKey bits key s = IsTrafficKey bits key (quic_key s) (quic_iv s)
 
 -- the key that masks their headers
-abbrev pub IsHeaderKey : ℕ → ExpandedKey → QuicSecretState → Type 0
-IsHeaderKey bits key s = IsExpanded key × (bytes_of key ≡ quic_header_key s) × (key.width ≡ bits)
+pub record IsHeaderKey (bits : ℕ) (key : ExpandedKey) (s : QuicSecretState) : Type 0 where
+  pub expanded : IsExpanded key
+  pub width : key.width ≡ bits
+  pub unused : HasZerosAfter key
+  pub bytes_are : bytes_of key ≡ quic_header_key s
 
 -- the key that protects the records of a traffic secret (RFC 8446 section 7.3)
 abbrev pub IsRecordKey : ℕ → TrafficKey → SecretState → Type 0

@@ -1,6 +1,6 @@
 //! Sealing a message in pieces, under an expanded key.
 
-ghost use Rattle.std.specs.Prelude.{◌≡◌, ◌↔◌, ◌+◌, ◌<◌, ℕ, List, [], length, IsTrue, IsFalse};
+ghost use Rattle.std.specs.Prelude.{◌≡◌, ◌↔◌, ◌+◌, ◌<◌, ℕ, List, [], length, replicate, IsTrue, IsFalse};
 ghost use Rattle.aead_ciphers_base.specs.Aes.{aes};
 ghost use Rattle.aead_ciphers.specs.Gcm.{Fits, gcm_tag};
 ghost use Rattle.aead_ciphers_wide.specs.ExpandedKey.{bytes_of};
@@ -29,6 +29,7 @@ pub extern "C" fn deerlapse_key_begin(
     ensures accepted { IsTrue result ↔ (HasRounds key.now × Fits (length aad.now) 0) }
     ensures begun { IsTrue result
         → HasSealed (aes (bytes_of key.now)) nonce.now aad.now [] [] message.new }
+    ensures cleared { IsTrue result → message.new.batch ≡ replicate 128 0 }
     ensures refused { IsFalse result → message.new ≡ message.old }
 {
     if !has_rounds(key) {

@@ -43,6 +43,10 @@ new_key algorithm bytes iv = record { algorithm = algorithm; bytes = bytes; iv =
 abbrev pub rekeyed : KeyState → (bytes iv : List ℕ) → KeyState
 rekeyed key bytes iv = record key { bytes = bytes; iv = iv }
 
+-- a key has these bytes and this IV
+abbrev pub HasKey : KeyState → (bytes iv : List ℕ) → Type 0
+HasKey key bytes iv = (bytes ≡ key.bytes) × (iv ≡ key.iv)
+
 -- the AEAD algorithm of a cipher suite (RFC 8446 section B.4)
 abbrev pub suite_algorithm : Suite → Algorithm
 suite_algorithm Aes128Gcm = record { id = AES_128_GCM }

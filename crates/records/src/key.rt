@@ -1,9 +1,9 @@
 //! A key that seals and opens records by their numbers.
 
-ghost use Rattle.std.specs.Prelude.{◌≡◌, ℕ, List, ◌+◌, ◌-◌, ◌^◌, ◌<◌, ◌≤◌, ◌↔◌, ◌++◌, length, drop, take, slice_range, IsOk, IfOk, IsOkUnless, IfErr, IsErrOf, OnOk, OnErr};
+ghost use Rattle.std.specs.Prelude.{◌≡◌, ℕ, List, ◌+◌, ◌-◌, ◌^◌, ◌<◌, ◌≤◌, ◌↔◌, ◌++◌, length, drop, take, slice_range, IsTrue, IsOk, IfOk, IsOkUnless, IfErr, IsErrOf, OnOk, OnErr};
 ghost use Rattle.aead_ciphers.specs.Algorithm.{key_len};
 ghost use Rattle.key_derivation.specs.Tls.{record_iv, record_key};
-ghost use Rattle.records.specs.Keys.{new_key, rekeyed, secret_key, suite_algorithm};
+ghost use Rattle.records.specs.Keys.{HasKey, new_key, rekeyed, secret_key, suite_algorithm};
 ghost use Rattle.records.specs.Record.{header, record_at, Carries, Inner, IsAllowed, IsWhole, Seals};
 ghost use Rattle.records.specs.Refusals.{RefusesContent, RefusesToOpenTo, RefusesToSeal};
 ghost use Rattle.records.specs.Steps.{content_at, LeavesInner, LeavesRefused, Opens, OpensMessage, RefusesMessage};
@@ -92,6 +92,13 @@ impl RecordKey {
         let mut next = RecordKey::from_secret(secret);
         next.size_limit = self.size_limit;
         next
+    }
+
+    /// Returns whether this key has these bytes and this IV.
+    pub(crate) fn has(&self, key: &[u8], iv: &[u8; NONCE_LEN]) -> bool
+        ensures { IsTrue result ↔ HasKey self.now key.now iv.now }
+    {
+        self.key.expanded().is_of(key) && self.iv == *iv
     }
 
     /// The next key of the direction, with the same algorithm and size limit.

@@ -96,8 +96,9 @@ pub fn ends_of_one_secret_agree(secret: &Secret)
         × (stands.secret ≡ written.secret) }
 {}
 
-/// No pair of key and number is used twice: over every run of calls of a writer, the numbers that it seals under increase under
-/// each of its keys, and are at most as many as its limit (RFC 8446 sections 5.3 and 5.5).
+/// No pair of key and number is used twice, if all keys of the writer differ: over every run of its calls, the numbers that it
+/// seals under increase from each update to the next, and are at most as many as its limit (RFC 8446 sections 5.3 and 5.5). An
+/// `update_with` refuses the key and IV that the writer has, and knows none of those before.
 pub fn no_number_twice_under_a_key(first: &Writer, last: &Writer)
     ensures fresh { (by_key : List (List ℕ)) → WriterRuns first.now last.now by_key
         → All (λ numbers. AllPairs (λ m n. m < n) numbers) by_key }

@@ -17,6 +17,8 @@ pub enum RecordError {
     NoSecret,
     /// The reader or writer was made of a secret, which gives the next key and IV.
     HasSecret,
+    /// The next key and IV of a writer are those that it has, under which it would use numbers again.
+    SameKey,
     /// The size limit is not from 64 to 2^14 + 1 bytes (RFC 8449 section 4).
     SizeLimit,
     /// The RecordSizeLimit that the peer sent is below 64 or, from a server, above 2^14 + 1 bytes (RFC 8449 section 4).
@@ -94,6 +96,7 @@ impl RecordError {
             RecordError::KeyLength => "the key does not have the length of the algorithm's keys",
             RecordError::NoSecret => "there is no secret that gives the next key",
             RecordError::HasSecret => "the next key is given by the secret",
+            RecordError::SameKey => "the next key and IV are those of this key",
             RecordError::SizeLimit => "the size limit is not between 64 and 2^14 + 1",
             RecordError::PeerSizeLimit => "the peer's size limit is not an allowed one",
             RecordError::ContentTooLong => {

@@ -2,7 +2,7 @@
 
 ghost use Rattle.std.specs.Prelude.{◌≡◌, ◌+◌, ◌-◌, ◌^◌, ◌<◌, ◌≤◌, ◌↔◌, ◌++◌, min, length, drop, replicate, slice_range, vec_len, vec_capacity, None, IsSome, IsNone, IfSome, IsOk, IfOk, IsOkUnless, OnOk, IfErr, OnErr, IsErrOf};
 ghost use Rattle.aead_ciphers.specs.Algorithm.{key_len};
-ghost use Rattle.records.specs.Keys.{IsKeyOf, IsOfSecret, new_key, next_writer, rekeyed, writer_of};
+ghost use Rattle.records.specs.Keys.{HasKey, IsKeyOf, IsOfSecret, new_key, next_writer, rekeyed, writer_of};
 ghost use Rattle.records.specs.Record.{IsAllowed, record_at};
 ghost use Rattle.records.specs.Refusals.{RefusesContent, RefusesToSeal};
 
@@ -171,19 +171,25 @@ impl Writer {
     /// Continues with the next key and IV of this direction, after a KeyUpdate or the last record of the handshake was written.
     /// The number and the count of records start again at 0 (RFC 8446 sections 5.3 and 7.2).
     ///
-    /// Fails with `HasSecret` if the writer was made of a secret, and with `KeyLength` if `key` is not as long as the algorithm's
-    /// keys. The writer is then unchanged.
+    /// Fails with `HasSecret` if the writer was made of a secret, with `SameKey` if it has this key and this IV, whose numbers from
+    /// 0 on it has used or will use, and with `KeyLength` if `key` is not as long as the algorithm's keys. The writer is then
+    /// unchanged. A key of before the current one is not recognized: that no two keys are the same is the caller's responsibility.
     pub fn update_with(&mut self, key: &[u8], iv: [u8; NONCE_LEN]) -> Result<(), RecordError>
-        ensures accepted { IsOk result
-            ↔ (IsNone self.old.secret × (length key.now ≡ key_len self.old.key.algorithm)) }
+        ensures accepted { IsOk result ↔ (IsNone self.old.secret × (¬ HasKey self.old.key key.now iv)
+            × (length key.now ≡ key_len self.old.key.algorithm)) }
         ensures has_secret { IsSome self.old.secret → IsErrOf result RecordError.HasSecret }
-        ensures refused { IsNone self.old.secret → IsOkUnless result RecordError.KeyLength }
+        ensures same_key { IsNone self.old.secret → HasKey self.old.key key.now iv → IsErrOf result RecordError.SameKey }
+        ensures refused { IsNone self.old.secret → ¬ HasKey self.old.key key.now iv
+            → IsOkUnless result RecordError.KeyLength }
         ensures updated { OnOk result (self.new
             ≡ record self.old { key = rekeyed self.old.key key.now iv; number = 0 }) }
         ensures kept { OnErr result (self.new ≡ self.old) }
     {
         if self.secret.is_some() {
             return Err(RecordError::HasSecret);
+        }
+        if self.key.has(key, &iv) {
+            return Err(RecordError::SameKey);
         }
         let key = self.key.next(key, iv)?;
         self.continue_with_key(key, None);

@@ -101,6 +101,14 @@ impl<K: GcmKey> LessSafeKey<K> {
         LessSafeKey { key, algorithm }
     }
 
+    /// Borrows the expanded key, for the calls of its own type.
+    pub fn expanded(&self) -> &K
+        ensures expanded { K.is_expanded result.now }
+        ensures bytes { K.bytes_of result.now ≡ self.now.bytes }
+    {
+        &self.key
+    }
+
     /// Returns the algorithm of the key.
     pub fn algorithm(&self) -> &'static Algorithm
         ensures { result.now ≡ self.now.algorithm }

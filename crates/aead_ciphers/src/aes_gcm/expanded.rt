@@ -45,6 +45,8 @@ impl GcmKey for ExpandedKey {
     }
 
     fn expand(&mut self, bytes: KeyBytes<'_>, work: &mut Work) {
+        // So that no round key stays of a longer key that was here.
+        self.round_keys = [[0; 8]; 15];
         self.rounds = aes::expand(&mut self.round_keys, bytes);
         let aes = aes::KeyRef::new(&self.round_keys, self.rounds);
         let subkey = aes.encrypt_block(ZERO_BLOCK, work);

@@ -4,10 +4,10 @@
 ghost use Rattle.std.specs.Prelude.{◌≡◌, ◌+◌, ◌-◌, ◌*◌, ◌/◌, ◌%◌, ◌<◌, ◌≤◌, ◌≢◌, ◌⊎◌, ◌==◌, nat_lt, if◌then◌else◌, ℕ, [], ◌∷◌, length, slice_index};
 ghost use Rattle.aead_ciphers_base.specs.Bytes.{◌⊕◌};
 ghost use Rattle.aead_ciphers_base.specs.Aes.{at, state, rot_word, sub_word, key_words, power_of_x};
-ghost use Rattle.aead_ciphers_wide.specs.WideSchedule.{HoldsWords, column, key_at};
+ghost use Rattle.aead_ciphers_wide.specs.WideSchedule.{AreZerosAfter, HoldsWords, column, key_at};
 
 use super::permuted::sub_each;
-use super::round_keys::RoundKeys;
+use super::round_keys::{RoundKeys, clear_rows};
 use crate::permute::look_up;
 use aead_ciphers_base::aes::{BLOCK_LEN, ZERO_BLOCK};
 use std::simd::u8x16;
@@ -119,7 +119,8 @@ fn next_round_key(back: u8x16, word: u8x16) -> u8x16
 /// Copies the key to the first round keys.
 fn copy_key(round_keys: &mut RoundKeys, key: &[u8])
     requires { length key.now ≤ 240 }
-    ensures { (j k : ℕ) → j < length key.now / 16 → k < 16
+    ensures later { (j : ℕ) → length key.now / 16 ≤ j → key_at round_keys.new j ≡ key_at round_keys.old j }
+    ensures copied { (j k : ℕ) → j < length key.now / 16 → k < 16
         → slice_index (key_at round_keys.new j) k ≡ slice_index key.now (16 * j + k) }
 {
     for n in 0..key.len() / BLOCK_LEN {
@@ -129,12 +130,14 @@ fn copy_key(round_keys: &mut RoundKeys, key: &[u8])
     }
 }
 
-/// Expands a key of 16 or 32 bytes: writes the first 11 or 15 of its round keys.
+/// Expands a key of 16 or 32 bytes: writes its 11 or 15 round keys, and zeros after them.
 pub fn expand(round_keys: &mut RoundKeys, key: &[u8])
     requires { (length key.now ≡ 16) ⊎ (length key.now ≡ 32) }
-    ensures { let nk = length key.now / 4 in
+    ensures words { let nk = length key.now / 4 in
         HoldsWords round_keys.new (key_words nk key.now (4 * (nk + 7) - nk)) (nk + 7) }
+    ensures unused { AreZerosAfter round_keys.new (length key.now / 4 + 6) }
 {
+    clear_rows(round_keys, key.len() / 4 + 7, ZERO_BLOCK);
     copy_key(round_keys, key);
     let m = key.len() / BLOCK_LEN;
     // The round keys that the next one is made of. To load them from `round_keys` would wait for what was just stored.

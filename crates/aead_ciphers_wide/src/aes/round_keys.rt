@@ -1,10 +1,10 @@
 //! Round keys as blocks, and as the planes that a pass adds, which hold a round key eight times, once for each block: spreading
 //! words in each round took a tenth of a pass.
 
-ghost use Rattle.std.specs.Prelude.{◌≡◌, ◌<◌, ◌≤◌, ◌+◌, ◌*◌, ◌/◌, ◌^◌, ℕ, map, slice_index};
+ghost use Rattle.std.specs.Prelude.{◌≡◌, ◌<◌, ◌≤◌, ◌+◌, ◌*◌, ◌/◌, ◌^◌, ℕ, drop, length, map, slice_index, slice_index_or, take};
 ghost use Rattle.std.specs.Int.{bit_at};
 ghost use Rattle.aead_ciphers_base.specs.Planes.{plane_byte};
-ghost use Rattle.aead_ciphers_wide.specs.WideSchedule.{HoldsPlanes, planes_of};
+ghost use Rattle.aead_ciphers_wide.specs.WideSchedule.{AreZerosAfter, HoldsPlanes, planes_of};
 ghost use Rattle.aead_ciphers_wide.specs.Word.{twice};
 
 use crate::word::{WiderWord, Word};
@@ -93,11 +93,34 @@ fn pack_round_key(block: Block) -> KeyPlanes
     ]
 }
 
-/// Writes the planes of the first `rounds + 1` round keys.
+/// Returns the bytes of two blocks, one after the other.
+pub(crate) fn joined(first: Block, second: Block) -> [u8; 32]
+    ensures first { take 16 result ≡ first }
+    ensures second { drop 16 result ≡ second }
+{
+    let mut both = [0; 32];
+    both[..16].copy_from_slice(&first);
+    both[16..].copy_from_slice(&second);
+    both
+}
+
+/// Writes zeros to the rows from `from` on.
+pub(super) fn clear_rows<T: Copy>(rows: &mut [T], from: usize, zero: T)
+    ensures size { length rows.new ≡ length rows.old }
+    ensures cleared { (j : ℕ) (d : T) → from ≤ j → j < length rows.old → slice_index_or rows.new j d ≡ zero }
+{
+    for j in from..rows.len() {
+        rows[j] = zero;
+    }
+}
+
+/// Writes the planes of the first `rounds + 1` round keys, and zeros after them.
 pub fn write_planes(planes: &mut RoundPlanes, round_keys: &RoundKeys, rounds: usize)
     requires { rounds ≤ 14 }
-    ensures { HoldsPlanes planes.new round_keys.now (rounds + 1) }
+    ensures planes { HoldsPlanes planes.new round_keys.now (rounds + 1) }
+    ensures unused { AreZerosAfter planes.new rounds }
 {
+    clear_rows(planes, rounds + 1, [0; 16]);
     for j in 0..rounds + 1 {
         planes[j] = pack_round_key(round_keys[j]);
     }

@@ -1,6 +1,6 @@
 //! Sealing a message in pieces of any lengths, with any cipher and hash (SP 800-38D section 7.1).
 
-ghost use Rattle.std.specs.Prelude.{◌≡◌, ◌↔◌, ◌≤◌, ◌<◌, ◌+◌, ◌%◌, ◌^◌, ◌-◌, ℕ, List, [], ◌++◌, length, min, IsOk, IfOk, OnOk, OnErr};
+ghost use Rattle.std.specs.Prelude.{◌≡◌, ◌↔◌, ◌≤◌, ◌<◌, ◌+◌, ◌%◌, ◌^◌, ◌-◌, ℕ, List, [], ◌++◌, length, min, replicate, IsOk, IfOk, OnOk, OnErr};
 ghost use Rattle.aead_ciphers_base.specs.Bytes.{zero_block};
 ghost use Rattle.aead_ciphers_base.specs.Values.{aad_bytes};
 ghost use Rattle.aead_ciphers.specs.Gcm.{Fits, gcm_tag, padded_blocks};
@@ -67,6 +67,7 @@ impl SealState {
         ensures begun { IfOk result (λ s. (cipher : List ℕ → List ℕ)
             → G.hash_subkey gcm.now ≡ cipher zero_block
             → HasSealed cipher nonce (aad_bytes aad.entry) [] [] s) }
+        ensures cleared { IfOk result (λ s. s.batch ≡ replicate 128 0) }
     {
         let aad = aad.as_ref();
         if aad.len() > MAX_AAD_LEN {
@@ -96,6 +97,7 @@ impl SealState {
         ensures begun { IfOk result (λ s. (cipher : List ℕ → List ℕ)
             → G.hash_subkey gcm.now ≡ cipher zero_block
             → HasSealed cipher nonce (joined aad.now) [] [] s) }
+        ensures cleared { IfOk result (λ s. s.batch ≡ replicate 128 0) }
     {
         let mut hash = PartialHash::new();
         for part in aad {

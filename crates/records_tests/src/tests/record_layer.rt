@@ -802,8 +802,32 @@ fn starting_at(rt: HostRuntime) -> Result<(), Fail> {
     Ok(())
 }
 
+/// Asserts that a writer of this key refuses the key and IV that it has and is then unchanged, and that it takes another IV.
+fn refuses_its_own_key(
+    rt: &impl Abort,
+    alloc: Global,
+    mut writer: Writer,
+    key: &[u8],
+) -> Result<(), Fail> {
+    write(alloc, &mut writer, ApplicationData, b"one", 0)?;
+    let refused = writer.update_with(key, IV);
+    equal(rt, refused, Err(RecordError::SameKey), "its own key");
+    equal(rt, writer.number(), 1, "the number stays");
+    writer.update_with(key, [7; 12])?;
+    equal(rt, writer.number(), 0, "the number under another IV");
+    Ok(())
+}
+
+#[test]
+fn a_writer_refuses_its_own_key(rt: HostRuntime) -> Result<(), Fail> {
+    let writer = Writer::new(&AES_128_GCM, &KEY[..16], IV)?;
+    refuses_its_own_key(&rt, rt.alloc(), writer, &KEY[..16])?;
+    let writer = Writer::new(&AES_256_GCM, &KEY, IV)?;
+    refuses_its_own_key(&rt, rt.alloc(), writer, &KEY)
+}
+
 /// Each error with its text, and the number of its alert (RFC 8446 section 6).
-const TEXTS: [(RecordError, &str, u8); 23] = [
+const TEXTS: [(RecordError, &str, u8); 24] = [
     (
         RecordError::KeyLength,
         "the key does not have the length of the algorithm's keys",
@@ -817,6 +841,11 @@ const TEXTS: [(RecordError, &str, u8); 23] = [
     (
         RecordError::HasSecret,
         "the next key is given by the secret",
+        0,
+    ),
+    (
+        RecordError::SameKey,
+        "the next key and IV are those of this key",
         0,
     ),
     (

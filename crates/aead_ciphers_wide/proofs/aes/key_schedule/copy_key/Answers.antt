@@ -1,4 +1,4 @@
-use Rattle.std.proofs.Common.{◌≡◌, ◌+◌, ◌*◌, ◌<◌, ℕ, ◌∙◌, ap, arith, drop, get_or-drop, get_or-take, length-set, slice_index}
+use Rattle.std.proofs.Common.{◌≡◌, ◌+◌, ◌*◌, ◌<◌, ℕ, [], ◌∙◌, ap, arith, drop, get_or-drop, get_or-set_other, get_or-take, length-set, slice_index}
 use Rattle.aead_ciphers_wide.proofs.WideRoundKeys.{keys_more}
 use Rattle.aead_ciphers_wide.proofs.aes.key_schedule.copy_key.Goals as goal
 
@@ -10,6 +10,7 @@ loop-n-preserved c =
     let inv = c.loop-n.invariant in
     record {
       size = length-set keys n block ∙ inv.size;
+      later = λ j le. get_or-set_other keys n j block [] (λ e. absurd (omega arith)) ∙ inv.later j le;
       copied = λ j k hj hk.
           keys_more (λ j b. (k : ℕ) → k < 16 → slice_index b k ≡ slice_index c.args.key.now (16 * j + k)) keys n block (omega (arith, inv.size))
           (λ j less k hk. inv.copied j k less hk) (λ k hk.

@@ -17,7 +17,8 @@ loop-n-init c = record {
   size = search rules;
   back = ap (key_at c.copy_key.new.round_keys) (omega arith);
   last = refl;
-  held = first_columns _ c.args.key.now _ c.copy_key.new.round_keys c.copy_key.ensures;
+  unused = λ j lt in_range. c.copy_key.ensures.later j (omega arith) ∙ c.clear_rows.ensures.cleared j [] (omega arith) (omega arith);
+  held = first_columns _ c.args.key.now _ c.copy_key.new.round_keys c.copy_key.ensures.copied;
 }
 
 pub loop-n-preserved : goal.loop-n-preserved
@@ -33,6 +34,7 @@ loop-n-preserved c =
     let words = key_words (4 * m) key (4 * (4 * m + 7) - 4 * m) in
     record {
       size = length-set keys n v ∙ inv.size;
+      unused = λ j lt in_range. get_or-set_other keys n j v [] (λ e. absurd (omega arith)) ∙ inv.unused j lt in_range;
       back = elim c.if-m-eq1.branch [
         | then-m-eq1 w ↦ w.back-is ∙ newest (n + 1 - m) (omega arith)
         | else-m-eq1 w ↦
@@ -51,8 +53,8 @@ loop-n-preserved c =
           j hj i hi;
     }
 
-pub returns : goal.returns
-returns c =
+pub returns-clause-words : goal.returns-clause-words
+returns-clause-words c =
     let key = c.args.key.now in
     let nk : 4 * (length key / 16) ≡ length key / 4 = omega arith in
     let end : c.loop-n.n ≡ 4 * (length key / 16) + 7 = omega arith in
