@@ -14,7 +14,9 @@ use crate::keys::keys_of;
 use crate::packet::{NUMBERS_END, payload_len};
 use crate::receive_error::ReceiveError;
 use crate::send_error::SendError;
-use aead_ciphers::aead::{Aad, Algorithm, MAX_TAG_LEN, NONCE_LEN, Nonce, Tag, UnboundKey, nonce_of};
+use aead_ciphers::aead::{
+    Aad, Algorithm, MAX_TAG_LEN, NONCE_LEN, Nonce, Tag, UnboundKey, nonce_of,
+};
 use aead_ciphers::gcm::fits;
 use aead_ciphers_wide::aead::LessSafeKey;
 use key_derivation::quic::QuicSecret;

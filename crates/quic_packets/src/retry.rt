@@ -7,8 +7,8 @@ ghost use Rattle.quic_packets.specs.Retry.{IsGenuineRetry, IsShortPseudoPacket, 
 
 use crate::datagram::MAX_ID_LEN;
 use aead_ciphers::aead::{MAX_TAG_LEN, NONCE_LEN, Nonce, Tag};
-use aead_ciphers_base::aes::{KeyBytes, Work};
 use aead_ciphers::aes_gcm::GcmKey;
+use aead_ciphers_base::aes::{KeyBytes, Work};
 use aead_ciphers_wide::aes_gcm::ExpandedKey;
 use key_derivation::quic::Version;
 use thiserror::Error;

@@ -13,7 +13,9 @@ use crate::header::{check_len, header_in, header_of};
 use crate::inner::{content_of, inner_len, pad};
 use crate::record_error::RecordError;
 use crate::{HEADER_LEN, MAX_SIZE_LIMIT, MIN_SIZE_LIMIT, TAG_LEN};
-use aead_ciphers::aead::{AES_128_GCM, AES_256_GCM, Aad, Algorithm, NONCE_LEN, Tag, UnboundKey, nonce_of};
+use aead_ciphers::aead::{
+    AES_128_GCM, AES_256_GCM, Aad, Algorithm, NONCE_LEN, Tag, UnboundKey, nonce_of,
+};
 use aead_ciphers_wide::aead::LessSafeKey;
 use key_derivation::{Secret, Suite};
 use std::marker::Model;
