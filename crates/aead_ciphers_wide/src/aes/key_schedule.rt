@@ -7,7 +7,7 @@ ghost use Rattle.aead_ciphers_base.specs.Aes.{at, state, rot_word, sub_word, key
 ghost use Rattle.aead_ciphers_wide.specs.WideSchedule.{AreZerosAfter, HoldsWords, column, key_at};
 
 use super::permuted::sub_each;
-use super::round_keys::{RoundKeys, clear_rows};
+use super::round_keys::{RoundKeys, clear_last_four};
 use crate::permute::look_up;
 use aead_ciphers_base::aes::{BLOCK_LEN, ZERO_BLOCK};
 use std::simd::u8x16;
@@ -137,7 +137,7 @@ pub fn expand(round_keys: &mut RoundKeys, key: &[u8])
         HoldsWords round_keys.new (key_words nk key.now (4 * (nk + 7) - nk)) (nk + 7) }
     ensures unused { AreZerosAfter round_keys.new (length key.now / 4 + 6) }
 {
-    clear_rows(round_keys, key.len() / 4 + 7, ZERO_BLOCK);
+    clear_last_four(round_keys, ZERO_BLOCK);
     copy_key(round_keys, key);
     let m = key.len() / BLOCK_LEN;
     // The round keys that the next one is made of. To load them from `round_keys` would wait for what was just stored.

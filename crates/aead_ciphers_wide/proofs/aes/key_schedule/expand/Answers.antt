@@ -17,7 +17,7 @@ loop-n-init c = record {
   size = search rules;
   back = ap (key_at c.copy_key.new.round_keys) (omega arith);
   last = refl;
-  unused = λ j lt in_range. c.copy_key.ensures.later j (omega arith) ∙ c.clear_rows.ensures.cleared j [] (omega arith) (omega arith);
+  unused = λ j lt in_range. c.copy_key.ensures.later j (omega arith) ∙ c.clear_last_four.ensures.cleared j [] (omega arith) in_range;
   held = first_columns _ c.args.key.now _ c.copy_key.new.round_keys c.copy_key.ensures.copied;
 }
 
