@@ -357,7 +357,8 @@ impl Connection {
     /// `id_len` is the length of this end's own connection IDs, and `id` the destination ID of the datagram's first packet, which
     /// the caller knows as the connection's: an own one or, at a server, the one that the client chose for its first packets.
     ///
-    /// A packet with a long header of another version than the receiver's is dropped (`SendError::OtherVersion`).
+    /// A packet with a long header of another version than the receiver's is dropped (`ReceiveError::OtherVersion`), and so is each
+    /// one for which `Receiver::receive` fails with an error that has no code, such as `Refused` or `Duplicate`.
     ///
     /// A key update of the peer is followed before the call returns, so before anything of the packet is acknowledged (RFC 9001
     /// section 6.2).
@@ -374,6 +375,7 @@ impl Connection {
     ) -> Result<Step, ReceiveError>
         ensures at_limit { IsErrOf result ReceiveError.TooManyFailures ↔ (self.old.failures.limit ≤ self.old.failures.count) }
         ensures closes { IfErr result (λ error. IsSome (receive_error_code error)) }
+        ensures drops { (error : ReceiveError) → IsGiven result (Incoming.Dropped error) → receive_error_code error ≡ None }
         ensures next { IfOk result (λ step. step.next
             ≡ end_of (packet_of self.old.fixed_bit id_len datagram.old at) (length datagram.old)) }
         ensures moves_on { at < length datagram.old → IfOk result (λ step. (at < step.next) × (step.next ≤ length datagram.old)) }
