@@ -5,7 +5,10 @@ use crate::tests::checks::{equal, holds};
 use key_derivation::Secret;
 use key_derivation::quic::{QuicSecret, Version};
 use quic_packets::connection::{Connection, Incoming, Level};
-use quic_packets::{FixedBit, KeyError, NumberError, PacketType, ReceiveError, SendError};
+use quic_packets::{
+    FixedBit, HeaderKey, KeyError, NumberError, PacketKey, PacketType, ReceiveError, SendError,
+    Sender,
+};
 use std::alloc::Global;
 use std::mem;
 use std::process::Abort;
@@ -474,6 +477,121 @@ fn arrive(rt: &impl Abort, alloc: Global, end: &mut Connection) -> Result<(), Fa
 #[test]
 fn what_becomes_of_packets(rt: HostRuntime) -> Result<(), Fail> {
     arrive(&rt, rt.alloc(), &mut established(SERVER, CLIENT))
+}
+
+/// The Key Phase bit of a short header.
+const KEY_PHASE: u8 = 0x04;
+
+/// The payload of an authentic packet.
+const PINGS: [u8; 4] = [PING; 4];
+
+/// An authentic packet of the peer with these bits set in its first byte, this number in four bytes, and this payload. With the
+/// Key Phase bit it is under the keys of the next phase.
+fn authentic(
+    alloc: Global,
+    packet_type: PacketType,
+    bits: u8,
+    number: u8,
+    payload: &[u8],
+) -> Result<Vec<u8>, Fail> {
+    let (header, _) = header(packet_type);
+    let mut packet = Vec::from_slice(alloc, header)?;
+    if let Some(first) = packet.first_mut() {
+        *first |= bits | 3;
+    }
+    packet.extend_from_slice(&[0, 0, 0, number])?;
+    let header_len = packet.len();
+    packet.extend_from_slice(payload)?;
+    packet.extend_from_slice(&[0; 16])?;
+    let peer = secret(CLIENT);
+    let key = if bits == KEY_PHASE {
+        PacketKey::from_secret(&peer.next())
+    } else {
+        PacketKey::from_secret(&peer)
+    };
+    key.seal(u64::from(number), &mut packet, header_len)?;
+    HeaderKey::from_secret(&peer).protect(&mut packet, header.len())?;
+    Ok(packet)
+}
+
+/// An authentic packet that closes a connection which has received the 1-RTT packet 5: its type, the bits that are set in its first
+/// byte, its number and its payload, and the error and its code.
+type Closing = (PacketType, u8, u8, &'static [u8], ReceiveError, u64);
+
+/// Each reserved bit of a short header, and both of a long one; no frames; and a packet of the next phase whose number is below one
+/// that the current keys opened. The codes are PROTOCOL_VIOLATION and KEY_UPDATE_ERROR (RFC 9000 section 20.1).
+const CLOSING: [Closing; 5] = [
+    (
+        PacketType::OneRtt,
+        0x08,
+        6,
+        &PINGS,
+        ReceiveError::ReservedBits,
+        0x0a,
+    ),
+    (
+        PacketType::OneRtt,
+        0x10,
+        6,
+        &PINGS,
+        ReceiveError::ReservedBits,
+        0x0a,
+    ),
+    (
+        PacketType::Handshake,
+        0x0c,
+        6,
+        &PINGS,
+        ReceiveError::ReservedBits,
+        0x0a,
+    ),
+    (PacketType::OneRtt, 0, 6, &[], ReceiveError::NoFrames, 0x0a),
+    (
+        PacketType::OneRtt,
+        KEY_PHASE,
+        4,
+        &PINGS,
+        ReceiveError::KeyUpdate,
+        0x0e,
+    ),
+];
+
+/// Asserts that the packet is returned as an error with its code, again if it comes again, and that the connection is then as it
+/// was: it has counted neither the number nor a failure, has not updated its keys, and receives the packets that follow.
+fn closes(rt: &impl Abort, alloc: Global, end: &mut Connection, row: &Closing) -> Result<(), Fail> {
+    let (packet_type, bits, number, payload, error, code) = *row;
+    let mut fifth = authentic(alloc, PacketType::OneRtt, 0, 5, &PINGS)?;
+    becomes(rt, end, &mut fifth, &ID, Ok("received"));
+    for _ in 0..2 {
+        let mut packet = authentic(alloc, packet_type, bits, number, payload)?;
+        becomes(rt, end, &mut packet, &ID, Err(error));
+    }
+    equal(rt, &error.code(), &Some(code));
+    equal(rt, &end.failures(), &0);
+    equal(
+        rt,
+        &end.sender(Level::OneRtt).map(Sender::phase),
+        &Some(false),
+    );
+    let mut right = authentic(alloc, packet_type, 0, number, &PINGS)?;
+    becomes(rt, end, &mut right, &ID, Ok("received"));
+    let mut update = authentic(alloc, PacketType::OneRtt, KEY_PHASE, 7, &PINGS)?;
+    becomes(rt, end, &mut update, &ID, Ok("received"));
+    equal(
+        rt,
+        &end.sender(Level::OneRtt).map(Sender::phase),
+        &Some(true),
+    );
+    Ok(())
+}
+
+// Authentic packets that no peer may send are errors that close the connection, and none is dropped.
+#[test]
+fn authentic_packets_that_close(rt: HostRuntime) -> Result<(), Fail> {
+    for row in &CLOSING {
+        closes(&rt, rt.alloc(), &mut established(SERVER, CLIENT), row)?;
+    }
+    Ok(())
 }
 
 /// Asserts that one packet of a datagram is received, and how many fail.
