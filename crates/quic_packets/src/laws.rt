@@ -114,7 +114,7 @@ pub fn low_bytes_are_low_bits(number: u64, len: usize)
 
 /// Over every run of calls of one sender, the packet numbers that it seals under increase over all of its keys together, so no
 /// pair of key and number is used twice (RFC 9000 section 12.3, RFC 9001 section 5.3). Under each key there are at most as many
-/// packets as its limit (RFC 9001 section 6.6).
+/// packets as its limit, if all of its keys differ (RFC 9001 section 6.6).
 pub fn no_number_twice_over_keys(first: &Sender, last: &Sender)
     ensures fresh { (by_key : List (List ℕ)) → Runs first.now last.now by_key
         → AllPairs (λ m n. m < n) (flat_map (λ numbers. numbers) by_key) }

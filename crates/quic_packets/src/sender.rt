@@ -37,7 +37,8 @@ pub const CONFIDENTIALITY_LIMIT: u64 = 1 << 23;
 
 /// Sends the packets of one number space in one direction, under one key after another.
 ///
-/// No number is used twice, not even under different keys, and one key seals at most 2^23 packets.
+/// No number is used twice, not even under different keys. One key seals at most 2^23 packets if all of its keys differ: one that is
+/// given again is counted anew.
 ///
 /// # Examples
 ///
