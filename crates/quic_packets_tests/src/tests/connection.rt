@@ -518,42 +518,16 @@ fn authentic(
 /// byte, its number and its payload, and the error and its code.
 type Closing = (PacketType, u8, u8, &'static [u8], ReceiveError, u64);
 
+use ReceiveError::{KeyUpdate, NoFrames, ReservedBits};
+
 /// Each reserved bit of a short header, and both of a long one; no frames; and a packet of the next phase whose number is below one
 /// that the current keys opened. The codes are PROTOCOL_VIOLATION and KEY_UPDATE_ERROR (RFC 9000 section 20.1).
 const CLOSING: [Closing; 5] = [
-    (
-        PacketType::OneRtt,
-        0x08,
-        6,
-        &PINGS,
-        ReceiveError::ReservedBits,
-        0x0a,
-    ),
-    (
-        PacketType::OneRtt,
-        0x10,
-        6,
-        &PINGS,
-        ReceiveError::ReservedBits,
-        0x0a,
-    ),
-    (
-        PacketType::Handshake,
-        0x0c,
-        6,
-        &PINGS,
-        ReceiveError::ReservedBits,
-        0x0a,
-    ),
-    (PacketType::OneRtt, 0, 6, &[], ReceiveError::NoFrames, 0x0a),
-    (
-        PacketType::OneRtt,
-        KEY_PHASE,
-        4,
-        &PINGS,
-        ReceiveError::KeyUpdate,
-        0x0e,
-    ),
+    (PacketType::OneRtt, 0x08, 6, &PINGS, ReservedBits, 0x0a),
+    (PacketType::OneRtt, 0x10, 6, &PINGS, ReservedBits, 0x0a),
+    (PacketType::Handshake, 0x0c, 6, &PINGS, ReservedBits, 0x0a),
+    (PacketType::OneRtt, 0, 6, &[], NoFrames, 0x0a),
+    (PacketType::OneRtt, KEY_PHASE, 4, &PINGS, KeyUpdate, 0x0e),
 ];
 
 /// Asserts that the packet is returned as an error with its code, again if it comes again, and that the connection is then as it
