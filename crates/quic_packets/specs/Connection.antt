@@ -1,9 +1,8 @@
 -- One end of a connection: its levels, and what becomes of a packet that it receives (RFC 9000 sections 12.2 and 12.3, RFC 9001
 -- sections 4.9, 5.7 and 6).
-use Rattle.std.specs.Prelude.{◌≡◌, ℕ, ◌+◌, ◌-◌, ◌<◌, ◌≤◌, ◌↔◌, ◌⊎◌, Bool, true, false, IsFalse, IsTrue, if◌then◌else◌, List, length, slice_range, Option, None, Some, is_some, IsSome, IfSome, Result, Ok, Err, IsOkAnd, IfOk, IfErr, IsErrOf, OnErr}
+use Rattle.std.specs.Prelude.{◌≡◌, ℕ, ◌+◌, ◌-◌, ◌<◌, ◌≤◌, ◌↔◌, ◌⊎◌, Bool, true, false, IsFalse, IsTrue, if◌then◌else◌, List, length, slice_range, Option, None, Some, IsSome, IfSome, Result, Ok, Err, IsOkAnd, IfOk, IfErr, IsErrOf, OnErr}
 use Rattle.quic_packets.specs.Datagram.{KeepsOutside, bytes_of, next_after, number_in, packet_of}
 use Rattle.quic_packets.specs.Ends.{Ends, following, kept_back, phase_of, renewed, sent, with_next_key}
-use Rattle.quic_packets.specs.Errors.{receive_error_code}
 use Rattle.quic_packets.specs.Failures.{Failures}
 use Rattle.quic_packets.specs.Header.{HasSample}
 use Rattle.quic_packets.specs.Receiving.{Outcome, Reads, Receiver, is_of_opened}
@@ -164,10 +163,10 @@ packet_in _ = None
 abbrev pub IfPacket : Result Step ReceiveError → (PacketType → Received → Type 0) → Type 0
 IfPacket result P = IfOk result (λ step. IfSome (packet_in step.incoming) (λ p. P p.0 p.1))
 
--- what the receiver returned: an error with a code closes the connection, and after any other one the packet is dropped
-abbrev pub incoming_of : PacketType → Result Received ReceiveError → Result Incoming ReceiveError
-incoming_of packet_type (Ok received) = Ok (PacketOf packet_type received)
-incoming_of packet_type (Err error) = if is_some (receive_error_code error) then Err error else Ok (Dropped error)
+-- what the receiver returned: after an error, either the packet is dropped and the connection goes on, or it is closed
+abbrev pub incoming_of : (goes_on : Bool) → PacketType → Result Received ReceiveError → Result Incoming ReceiveError
+incoming_of goes_on packet_type (Ok received) = Ok (PacketOf packet_type received)
+incoming_of goes_on packet_type (Err error) = if goes_on then Ok (Dropped error) else Err error
 
 abbrev pub opened_as : Incoming → Option (Result Received ReceiveError)
 opened_as (PacketOf packet_type received) = Some (Ok received)

@@ -1,7 +1,8 @@
 //! What becomes of a packet that arrives.
 
-ghost use Rattle.std.specs.Prelude.{◌≡◌};
-ghost use Rattle.quic_packets.specs.Connection.{incoming_of, step_of};
+ghost use Rattle.std.specs.Prelude.{◌≡◌, None, IsSome, IfErr, is_ok};
+ghost use Rattle.quic_packets.specs.Connection.{IsGiven, incoming_of, step_of};
+ghost use Rattle.quic_packets.specs.Errors.{receive_error_code};
 
 use crate::datagram::PacketType;
 use crate::receive_error::ReceiveError;
@@ -37,7 +38,9 @@ pub(crate) fn step_of(
     packet_type: PacketType,
     opened: Result<Received, ReceiveError>,
 ) -> Result<Step, ReceiveError>
-    ensures { result ≡ step_of next (incoming_of packet_type opened) }
+    ensures stepped { result ≡ step_of next (incoming_of (is_ok result) packet_type opened) }
+    ensures closes { IfErr result (λ error. IsSome (receive_error_code error)) }
+    ensures drops { (error : ReceiveError) → IsGiven result (Incoming.Dropped error) → receive_error_code error ≡ None }
 {
     let incoming = match opened {
         Ok(received) => Incoming::Packet(packet_type, received),

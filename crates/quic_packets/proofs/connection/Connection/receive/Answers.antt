@@ -1,4 +1,4 @@
-use Rattle.std.proofs.Common.{arith, ◌<◌}
+use Rattle.std.proofs.Common.{arith, ◌<◌, is_ok}
 use Rattle.quic_packets.specs.Connection.{IsReceiving}
 use Rattle.quic_packets.proofs.StepLemmas as lemmas
 use Rattle.quic_packets.proofs.connection.Connection.receive.Goals as goal
@@ -84,8 +84,8 @@ returns-in-Ok-clause-ignored c =
     let a = c.args in
     let p = c.in-Ok.parts in
     let it = c.in-Ok.ensures.to_open in
-    rw c.step_of.ensures (
-      λ e. absurd (lemmas.not_ignored p.end p.packet_type c.open-opened.result e),
+    rw c.step_of.ensures.stepped (
+      λ e. absurd (lemmas.not_ignored p.end (is_ok c.step_of.result) p.packet_type c.open-opened.result e),
       λ d. absurd (d.1 p it.packet),
     )
 
@@ -96,7 +96,7 @@ returns-in-Ok-clause-other_version c =
     let o = c.open-opened in
     let it = c.in-Ok.ensures.to_open in
     lemmas.other_version a.self.now a.id_len a.id.now a.datagram.now a.at p it.packet.parsed o.new.self o.new.datagram o.result c.step_of.result
-    it.within c.step_of.ensures o.ensures.some o.ensures.tried
+    it.within (is_ok c.step_of.result) c.step_of.ensures.stepped c.step_of.ensures.closes o.ensures.some o.ensures.tried
 
 pub returns-in-Ok-clause-no_sample : goal.returns-in-Ok-clause-no_sample
 returns-in-Ok-clause-no_sample c =
@@ -105,7 +105,7 @@ returns-in-Ok-clause-no_sample c =
     let o = c.open-opened in
     let it = c.in-Ok.ensures.to_open in
     lemmas.sampled a.self.now a.id_len a.id.now a.datagram.now a.at p it.packet.parsed o.new.self o.new.datagram o.result c.step_of.result
-    it.within c.step_of.ensures o.ensures.some o.ensures.tried
+    it.within (is_ok c.step_of.result) c.step_of.ensures.stepped c.step_of.ensures.closes o.ensures.some o.ensures.tried
 
 pub returns-in-Ok-clause-outcome : goal.returns-in-Ok-clause-outcome
 returns-in-Ok-clause-outcome c =
@@ -114,7 +114,7 @@ returns-in-Ok-clause-outcome c =
     let o = c.open-opened in
     let it = c.in-Ok.ensures.to_open in
     lemmas.outcome a.self.now a.id_len a.id.now a.datagram.now a.at p it.packet.parsed o.new.self o.new.datagram o.result c.step_of.result
-    it.within c.step_of.ensures o.ensures.some o.ensures.tried
+    it.within (is_ok c.step_of.result) c.step_of.ensures.stepped c.step_of.ensures.closes o.ensures.some o.ensures.tried
 
 pub returns-in-Ok-clause-failed : goal.returns-in-Ok-clause-failed
 returns-in-Ok-clause-failed c =
@@ -123,7 +123,7 @@ returns-in-Ok-clause-failed c =
     let o = c.open-opened in
     let it = c.in-Ok.ensures.to_open in
     lemmas.failed a.self.now a.id_len a.id.now a.datagram.now a.at p it.packet.parsed o.new.self o.new.datagram o.result c.step_of.result
-    it.within c.step_of.ensures o.ensures.some o.ensures.tried it.receiver
+    it.within (is_ok c.step_of.result) c.step_of.ensures.stepped c.step_of.ensures.closes o.ensures.some o.ensures.tried it.receiver
 
 pub returns-in-Ok-clause-received : goal.returns-in-Ok-clause-received
 returns-in-Ok-clause-received c =
@@ -132,7 +132,7 @@ returns-in-Ok-clause-received c =
     let o = c.open-opened in
     let it = c.in-Ok.ensures.to_open in
     lemmas.is_received a.self.now a.id_len a.id.now a.datagram.now a.at p it.packet.parsed o.new.self o.new.datagram o.result c.step_of.result
-    it.within c.step_of.ensures o.ensures.some o.ensures.tried it.receiver o.ensures.received
+    it.within (is_ok c.step_of.result) c.step_of.ensures.stepped c.step_of.ensures.closes o.ensures.some o.ensures.tried it.receiver o.ensures.received
 
 pub returns-in-Ok-clause-not_failed : goal.returns-in-Ok-clause-not_failed
 returns-in-Ok-clause-not_failed c =
@@ -141,7 +141,7 @@ returns-in-Ok-clause-not_failed c =
     let o = c.open-opened in
     let it = c.in-Ok.ensures.to_open in
     lemmas.not_failed a.self.now a.id_len a.id.now a.datagram.now a.at p it.packet.parsed o.new.self o.new.datagram o.result c.step_of.result
-    it.within c.step_of.ensures o.ensures.some o.ensures.tried it.receiver
+    it.within (is_ok c.step_of.result) c.step_of.ensures.stepped c.step_of.ensures.closes o.ensures.some o.ensures.tried it.receiver
 
 pub returns-in-Ok-clause-kept : goal.returns-in-Ok-clause-kept
 returns-in-Ok-clause-kept c =
@@ -150,7 +150,7 @@ returns-in-Ok-clause-kept c =
     let o = c.open-opened in
     let it = c.in-Ok.ensures.to_open in
     lemmas.kept a.self.now a.id_len a.id.now a.datagram.now a.at p it.packet.parsed o.new.self o.new.datagram o.result c.step_of.result
-    it.within c.step_of.ensures o.ensures.some o.ensures.tried it.receiver o.ensures.kept
+    it.within (is_ok c.step_of.result) c.step_of.ensures.stepped c.step_of.ensures.closes o.ensures.some o.ensures.tried it.receiver o.ensures.kept
 
 pub returns-in-Ok-clause-bytes_kept : goal.returns-in-Ok-clause-bytes_kept
 returns-in-Ok-clause-bytes_kept c =
@@ -159,7 +159,7 @@ returns-in-Ok-clause-bytes_kept c =
     let o = c.open-opened in
     let it = c.in-Ok.ensures.to_open in
     lemmas.bytes_kept a.self.now a.id_len a.id.now a.datagram.now a.at p it.packet.parsed o.new.self o.new.datagram o.result c.step_of.result
-    it.within c.step_of.ensures o.ensures.some o.ensures.tried it.receiver
+    it.within (is_ok c.step_of.result) c.step_of.ensures.stepped c.step_of.ensures.closes o.ensures.some o.ensures.tried it.receiver
 
 pub returns-in-Ok-clause-outside : goal.returns-in-Ok-clause-outside
 returns-in-Ok-clause-outside c =
@@ -168,4 +168,4 @@ returns-in-Ok-clause-outside c =
     let o = c.open-opened in
     let it = c.in-Ok.ensures.to_open in
     lemmas.outside a.self.now a.id_len a.id.now a.datagram.now a.at p it.packet.parsed o.new.self o.new.datagram o.result c.step_of.result
-    it.within c.step_of.ensures o.ensures.some o.ensures.tried it.receiver it.begins
+    it.within (is_ok c.step_of.result) c.step_of.ensures.stepped c.step_of.ensures.closes o.ensures.some o.ensures.tried it.receiver it.begins
