@@ -7,11 +7,15 @@ use Rattle.sealed_file.specs.Format.{ChunkKey, Secret, chunk_len, last_piece, se
 use Rattle.sealed_file.specs.Opening.{HasHeader, HasRightTag, HasTagUnder, IsSealedLen, chunk_of, header_of, key_of, last_chunk, opened_chunk}
 use Rattle.sealed_file.specs.Refusals.{HeaderRefuses, RefusesChunk}
 
--- what a reader is of: the key of the chunks, the sealed file where its bytes are known, and the length of the file
+-- what a reader is of: the key of the chunks, the sealed file where its bytes are known, and the length of the file; the position
+-- of the sealed file in the input, and the number of its last chunk; and the number of the chunk that the reader holds, if any
 pub record ReaderState : Type 0 where
   pub key : ChunkKey
   pub file : Option (List ℕ)
   pub len : ℕ
+  pub start : ℕ
+  pub last : ℕ
+  pub held : Option ℕ
 
 -- the sealed file that an input has from byte `start` on, where its bytes are known
 abbrev pub file_from : (start : ℕ) → Option (List ℕ) → Option (List ℕ)

@@ -59,6 +59,9 @@ impl<R: ReadAt> Model for SealedReader<R> {
       key = r.cipher;
       file = file_from r.layout.start (R.bytes r.input);
       len = chunk_len * r.layout.last + r.layout.last_len;
+      start = r.layout.start;
+      last = r.layout.last;
+      held = r.held;
     } };
 
     ghost invariant = { λ r. IsReader r.cipher (file_from r.layout.start (R.bytes r.input))
@@ -278,6 +281,10 @@ impl<R: ReadAt + Drop> SealedReader<R> {
     ) -> Result<SealedReader<R>, FileError>
         requires { length aad.now ≤ 4096 }
         ensures file { IfOk result (λ reader. reader.file ≡ file_from start (R.bytes input)) }
+        ensures start { IfOk result (λ reader. reader.start ≡ start) }
+        ensures last { IfSome (file_from start (R.bytes input)) (λ file. IfOk result (λ reader.
+            reader.last ≡ last_chunk file)) }
+        ensures held { IfOk result (λ reader. reader.held ≡ Some reader.last) }
         ensures readable { IfSome (file_from start (R.bytes input)) (λ file.
             IsOk result → IsReadable (secret key.now aad.now) file) }
         ensures key { IfSome (file_from start (R.bytes input)) (λ file. IfOk result (λ reader.
@@ -302,6 +309,10 @@ impl<R: ReadAt + Drop> SealedReader<R> {
     ) -> Result<SealedReader<R>, FileError>
         requires { length aad.now ≤ 4096 }
         ensures file { IfOk result (λ reader. reader.file ≡ file_from start (R.bytes input)) }
+        ensures start { IfOk result (λ reader. reader.start ≡ start) }
+        ensures last { IfSome (file_from start (R.bytes input)) (λ file. IfOk result (λ reader.
+            reader.last ≡ last_chunk file)) }
+        ensures held { IfOk result (λ reader. reader.held ≡ Some reader.last) }
         ensures readable { IfSome (file_from start (R.bytes input)) (λ file.
             IsOk result → IsReadable (secret key.now aad.now) file) }
         ensures accepted { IfSome (file_from start (R.bytes input)) (λ file. sealed_chunk_len ≤ vec_capacity buffer
@@ -339,7 +350,8 @@ impl<R: ReadAt + Drop> SealedReader<R> {
     /// at or past the end or `buf` is empty, and at most up to the end of a chunk.
     ///
     /// It allocates nothing. Fails with the errors of `open` for the chunk, with `EndsEarly` if the input has become shorter, and
-    /// with `Io` if reading fails. `buf` is then unchanged, and the reader can still be used.
+    /// with `Io` if reading fails. `buf` is then unchanged, and the reader can still be used: it has dropped the chunk that it kept,
+    /// so that the next call reads its chunk from the input.
     pub fn read_at(&mut self, offset: u64, buf: &mut [u8]) -> Result<usize, FileError>
         ensures nothing { (length buf.old ≡ 0) ⊎ (self.old.len ≤ offset) → IsOk result }
         ensures count { IfOk result (λ n. n ≡ min (length buf.old)
@@ -352,7 +364,11 @@ impl<R: ReadAt + Drop> SealedReader<R> {
         ensures refused { IfSome self.old.file (λ file. IfErr result (λ error.
             RefusesChunk self.old.key file (offset / chunk_len) error)) }
         ensures kept { OnErr result (buf.new ≡ buf.old) }
-        ensures same { self.new ≡ self.old }
+        ensures same { self.new ≡ record self.old { held = self.new.held } }
+        ensures held { OnOk result (0 < length buf.old → offset < self.old.len
+            → self.new.held ≡ Some (offset / chunk_len)) }
+        ensures idle { (length buf.old ≡ 0) ⊎ (self.old.len ≤ offset) → self.new.held ≡ self.old.held }
+        ensures dropped { OnErr result (self.new.held ≡ None) }
     {
         let Layout { last, last_len, .. } = self.layout;
         let Some((number, at)) = place_of(offset, last, last_len) else {
