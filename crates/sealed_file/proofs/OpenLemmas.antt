@@ -9,7 +9,7 @@ use specs.declared.error.FileError.TheVariants.{TooLong, OutOfMemory, Io}
 use specs.Format.{ChunkKey, Secret, sealed_chunk_len}
 use specs.Opening.{HasTag, HasRightTag, HasHeader, AreRight, IsSealed, body_of, chunk_key, chunk_of, header_len, header_of, key_of, last_chunk, messages_under, opened_chunk, opened_chunks, opened_file}
 use specs.Refusals.{HeaderRefuses, ChunkAtRefuses, ChunkRefuses, FailsInMemory, RefusesAt, OpenRefuses}
-use specs.Streams.{AppendsBeginning, AppendsRight, TakesFront}
+use specs.Streams.{AppendsAfter, AppendsBeginning, AppendsRight, TakesFront}
 use Rattle.sealed_file.proofs
 use proofs.ChunkLemmas.{of_same}
 use proofs.HeaderLemmas.{header_of-header_of, refused_is_none}
@@ -118,8 +118,8 @@ open_start key k file old now kept has key_is = record {
 }
 
 -- what was written until a call failed
-pub stop_at_start : (key : Secret) (file : List ℕ) (old : Option (List ℕ)) → AppendsRight key file old old
-stop_at_start key file old = (0, λ some. absurd (omega (arith, some)), none_right key file, begins_none old (opened_chunks key file 0))
+pub stop_at_start : (Front : Type 0) (key : Secret) (file : List ℕ) (old : Option (List ℕ)) → AppendsAfter Front key file old old
+stop_at_start Front key file old = (0, λ some. absurd (omega (arith, some)), none_right key file, begins_none old (opened_chunks key file 0))
 
 module _ {key : Secret} {k : ChunkKey} {file : List ℕ} {n : ℕ} {old now : Option (List ℕ)} (s : Opening key k file n old now) where
   -- too many chunks

@@ -1,17 +1,17 @@
 -- Files that are sealed under a passphrase.
 use Rattle.std.proofs.Common.{◌≡◌, ℕ, Result, Ok, Err, IfErr, OnOk, OnErr, IfSome, None, Some, inl, inr, ◌≤◌, List, ◌++◌, length, take, drop, refl, sym, ap, subst, ◌∙◌, arith, Option, length-take, take-take}
-use Rattle.std.proofs.lemmas.List.{drop-take}
+use Rattle.std.proofs.lemmas.List.{drop-take, take-append-le}
 use Rattle.std.specs.Fmt.{option_append}
 use Rattle.std.specs.Int.{to_be_bytes, w32}
 use Rattle.std.specs.Io.KnownBytes.{Appends}
 use Rattle.sealed_file.specs
 use specs.declared.error.FileError.{FileError}
-use specs.declared.error.FileError.TheVariants.{EndsEarly, Iterations}
+use specs.declared.error.FileError.TheVariants.{EndsEarly, Iterations, Io}
 use specs.Format.{ChunkKey, Secret, fresh_key, secret_of, with_header}
-use specs.Opening.{IsSealed, header_of, opened_file}
-use specs.Passphrase.{AreAllowed, FrontRefuses, OpensBy, PassphraseRefuses, core_of, fresh_passphrase_key, iteration_bytes, iterations_of, opened_by, passphrase_key, random_of, unlocked}
+use specs.Opening.{HasHeader, IsSealed, header_of, opened_file}
+use specs.Passphrase.{AreAllowed, FrontRefuses, HasIterations, OpensBy, PassphraseRefuses, core_of, fresh_passphrase_key, iteration_bytes, iterations_of, opened_by, passphrase_key, random_of, unlocked}
 use specs.Refusals.{HeaderRefuses, OpenRefuses}
-use specs.Streams.{AppendsRight, TakesFront}
+use specs.Streams.{AppendsRight, AppendsRightBy, TakesFront}
 
 -- ---- what a result says of known bytes
 
@@ -62,12 +62,27 @@ module _ (passphrase aad file seen read_bytes : List ℕ) (rest : Option (List �
     record { front = sym (ap (take 9) seen_is ∙ take-take 9 64 file (omega arith)) ∙ version.front },
     omega (arith, short, ap length seen_is, length-take 64 file),
   )
-  front_fails (Iterations n) (whole, is, wrong) = (whole_same whole, rw bytes_same at is, rw bytes_same at wrong)
+  front_fails (Iterations n) (version, whole, is, wrong) = (
+    record { front = sym (ap (take 9) seen_is ∙ take-take 9 64 file (omega arith)) ∙ version.front },
+    whole_same whole,
+    rw bytes_same at is,
+    rw bytes_same at wrong,
+  )
   front_fails error h = subst (λ s. HeaderRefuses s (header_of file) error) unlocked_same
       (subst (λ l. HeaderRefuses (unlocked passphrase aad seen) l error) header_same h)
 
   pub front_refused : (error : FileError) → FrontRefuses passphrase aad seen error → PassphraseRefuses passphrase aad file error
+  front_refused (Io e) h = tt
   front_refused error h = inl (front_fails error h)
+
+  -- the header that was read is whole and has iterations that are allowed, and so has the file's
+  has_iterations : 64 ≤ length seen → AreAllowed (iterations_of seen) → HasIterations file
+  has_iterations whole allowed = record { whole = whole_same whole; allowed = rw bytes_same at allowed }
+
+  -- the core of a whole file has its header
+  header_of_core : 64 ≤ length file → header_of (core_of file) ≡ header_of file
+  header_of_core whole =
+      take-append-le 60 (header_of file) (drop 64 file) (omega (arith, whole, length-take 60 file)) ∙ take-take 60 60 file (omega arith)
 
   -- what the first bytes and the others are together
   pub core_is : {first : List ℕ} {known : Option (List ℕ)} → first ≡ header_of seen → known ≡ option_append (Some first) rest
@@ -84,7 +99,7 @@ module _ (passphrase aad file seen read_bytes : List ℕ) (rest : Option (List �
     accepted_by (Err e) whole allowed h = tt
     accepted_by (Ok v) whole allowed h = record {
       whole = whole_same whole;
-      allowed = rw bytes_same at allowed;
+      allowed = (has_iterations whole allowed).allowed;
       sealed = of_file (λ s core. IsSealed s core) h;
     }
 
@@ -93,15 +108,30 @@ module _ (passphrase aad file seen read_bytes : List ℕ) (rest : Option (List �
     gives (Err e) old now h = tt
     gives (Ok v) old now h = of_file (λ s core. Appends old now (opened_file s core)) h
 
-    pub refused_by : {T : Type 0} (r : Result T FileError) → IfErr r (λ error. IfSome known (λ core. OpenRefuses s core error))
-        → IfErr r (λ error. PassphraseRefuses passphrase aad file error)
-    refused_by (Ok v) h = tt
-    refused_by (Err error) h = inr (of_file (λ s core. OpenRefuses s core error) h)
+    refused_for : (error : FileError) → HasIterations file → IfSome known (λ core. OpenRefuses s core error)
+        → PassphraseRefuses passphrase aad file error
+    refused_for (Io e) has h = tt
+    refused_for error has h = inr (has, of_file (λ s core. OpenRefuses s core error) h)
 
-    pub stopped_by : {T E : Type 0} (r : Result T E) (old now : Option (List ℕ))
-        → OnErr r (IfSome known (λ core. AppendsRight s core old now)) → OnErr r (AppendsRight (unlocked passphrase aad file) (core_of file) old now)
-    stopped_by (Ok v) old now h = tt
-    stopped_by (Err e) old now h = of_file (λ s core. AppendsRight s core old now) h
+    pub refused_by : {T : Type 0} (r : Result T FileError) → 64 ≤ length seen → AreAllowed (iterations_of seen)
+        → IfErr r (λ error. IfSome known (λ core. OpenRefuses s core error)) → IfErr r (λ error. PassphraseRefuses passphrase aad file error)
+    refused_by (Ok v) whole allowed h = tt
+    refused_by (Err error) whole allowed h = refused_for error (has_iterations whole allowed) h
+
+    stopped_for : (old now : Option (List ℕ)) → HasIterations file → AppendsRight (unlocked passphrase aad file) (core_of file) old now
+        → AppendsRightBy passphrase aad file old now
+    stopped_for old now has (n, front, tags, beginning) = (
+      n,
+      (λ some. (has, subst (λ l. HasHeader (unlocked passphrase aad file) l) (header_of_core has.whole) (front some))),
+      tags,
+      beginning,
+    )
+
+    pub stopped_by : {T E : Type 0} (r : Result T E) (old now : Option (List ℕ)) → 64 ≤ length seen → AreAllowed (iterations_of seen)
+        → OnErr r (IfSome known (λ core. AppendsRight s core old now)) → OnErr r (AppendsRightBy passphrase aad file old now)
+    stopped_by (Ok v) old now whole allowed h = tt
+    stopped_by (Err e) old now whole allowed h =
+        stopped_for old now (has_iterations whole allowed) (of_file (λ s core. AppendsRight s core old now) h)
 
 -- a header that doesn't begin as one of version 3
 pub front_of_header : (passphrase aad file header : List ℕ) → header ≡ header_of file → (error : FileError)

@@ -1,11 +1,11 @@
 -- Files that are sealed under a passphrase: version 3, as SEALED_FILE.md defines it.
-use Rattle.std.specs.Prelude.{◌≡◌, ℕ, ◌<◌, ◌≤◌, ◌⊎◌, List, ◌++◌, length, take, drop}
+use Rattle.std.specs.Prelude.{◌≡◌, ℕ, ◌<◌, ◌≤◌, ◌⊎◌, ⊤, List, ◌++◌, length, take, drop}
 use Rattle.std.specs.Int.{from_be_bytes, to_be_bytes, w32}
 use Rattle.key_derivation.specs.Hash.{sha_256}
 use Rattle.key_derivation.specs.Pbkdf2.{pbkdf2}
 use Rattle.sealed_file.specs
 use specs.declared.error.FileError.{FileError}
-use specs.declared.error.FileError.TheVariants.{EndsEarly, Iterations}
+use specs.declared.error.FileError.TheVariants.{EndsEarly, Iterations, Io}
 use specs.Format.{ChunkKey, Secret, fresh_key, secret_of, with_header}
 use specs.Opening.{IsSealed, header_of, opened_file}
 use specs.Refusals.{HeaderRefuses, IsVersion, OpenRefuses}
@@ -60,14 +60,20 @@ pub record OpensBy (passphrase aad file : List ℕ) : Type 0 where
 abbrev pub opened_by : (passphrase aad file : List ℕ) → List ℕ
 opened_by passphrase aad file = opened_file (unlocked passphrase aad file) (core_of file)
 
+-- the header of a file of version 3 is whole, and its iterations are allowed
+pub record HasIterations (file : List ℕ) : Type 0 where
+  pub whole : 64 ≤ length file
+  pub allowed : AreAllowed (iterations_of file)
+
 -- why bytes don't begin as a file of version 3
 abbrev pub FrontRefuses : (passphrase aad file : List ℕ) → FileError → Type 0
 FrontRefuses passphrase aad file EndsEarly = (length file < 9) ⊎ (IsVersion 3 file × (length file < 64))
 FrontRefuses passphrase aad file (Iterations n) =
-    (64 ≤ length file) × (n ≡ iterations_of file) × ¬ AreAllowed (iterations_of file)
+    IsVersion 3 file × (64 ≤ length file) × (n ≡ iterations_of file) × ¬ AreAllowed (iterations_of file)
 FrontRefuses passphrase aad file error = HeaderRefuses (unlocked passphrase aad file) (header_of file) error
 
--- why a file doesn't open under a passphrase
+-- why a file doesn't open under a passphrase: the key is compared and chunks are opened only with iterations that are allowed
 abbrev pub PassphraseRefuses : (passphrase aad file : List ℕ) → FileError → Type 0
-PassphraseRefuses passphrase aad file error =
-    FrontRefuses passphrase aad file error ⊎ OpenRefuses (unlocked passphrase aad file) (core_of file) error
+PassphraseRefuses passphrase aad file (Io error) = ⊤
+PassphraseRefuses passphrase aad file error = FrontRefuses passphrase aad file error
+    ⊎ (HasIterations file × OpenRefuses (unlocked passphrase aad file) (core_of file) error)

@@ -4,9 +4,9 @@ ghost use Rattle.std.specs.Prelude.{ℕ, List, ◌≡◌, ◌-◌, ◌^◌, ◌<
 ghost use Rattle.std.specs.Io.KnownBytes.{Appends};
 ghost use Rattle.sealed_file.specs.Format.{chunk_len, last_piece, sealed_file, secret_of};
 ghost use Rattle.sealed_file.specs.Opening.{header_of};
-ghost use Rattle.sealed_file.specs.Passphrase.{AreAllowed, FrontRefuses, OpensBy, PassphraseRefuses, core_of, fresh_passphrase_key, iterations_of, opened_by, passphrase_key, unlocked};
+ghost use Rattle.sealed_file.specs.Passphrase.{AreAllowed, FrontRefuses, OpensBy, PassphraseRefuses, fresh_passphrase_key, iterations_of, opened_by, passphrase_key, unlocked};
 ghost use Rattle.sealed_file.specs.Refusals.{IsVersion, SealRefuses};
-ghost use Rattle.sealed_file.specs.Streams.{AppendsBeginning, AppendsRight};
+ghost use Rattle.sealed_file.specs.Streams.{AppendsBeginning, AppendsRightBy};
 
 use crate::error::FileError;
 use crate::header::{ChunkCipher, FRONT_LEN, HEADER_LEN, RANDOM_LEN, check_front, read_header};
@@ -170,7 +170,7 @@ pub fn open_with_passphrase<R: Read, W: Write>(
     ensures refused { IfErr result (λ error. IfSome (R.remaining input.old) (λ file.
         PassphraseRefuses passphrase.now aad.now file error)) }
     ensures nothing_past { OnErr result (IfSome (R.remaining input.old) (λ file.
-        AppendsRight (unlocked passphrase.now aad.now file) (core_of file) (W.contents output.old) (W.contents output.new))) }
+        AppendsRightBy passphrase.now aad.now file (W.contents output.old) (W.contents output.new))) }
 {
     let mut header = Vec::new(alloc);
     read_piece(input, PASSPHRASE_HEADER_LEN, &mut header)?;

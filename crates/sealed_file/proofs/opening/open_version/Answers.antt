@@ -8,10 +8,10 @@ use proofs.StreamLemmas.{says_nothing, stop, stop_then}
 use proofs.opening.open_version.Goals as goal
 
 pub returns-in_err-chunk-clause-nothing_past : goal.returns-in_err-chunk-clause-nothing_past
-returns-in_err-chunk-clause-nothing_past g c = stop _ _ (λ file. stop_at_start _ _ _)
+returns-in_err-chunk-clause-nothing_past g c = stop _ _ (λ file. stop_at_start _ _ _ _)
 
 pub returns-in_err-read_header-clause-nothing_past : goal.returns-in_err-read_header-clause-nothing_past
-returns-in_err-read_header-clause-nothing_past g c = stop _ _ (λ file. stop_at_start _ _ _)
+returns-in_err-read_header-clause-nothing_past g c = stop _ _ (λ file. stop_at_start _ _ _ _)
 
 pub returns-in_err-cipher-clause-refused : goal.returns-in_err-cipher-clause-refused
 returns-in_err-cipher-clause-refused g c =
@@ -20,10 +20,10 @@ returns-in_err-cipher-clause-refused g c =
     header_fails _ _ _ _ _ _ c.deref.ensures.value read c.in_err-cipher.ensures.refused))
 
 pub returns-in_err-cipher-clause-nothing_past : goal.returns-in_err-cipher-clause-nothing_past
-returns-in_err-cipher-clause-nothing_past g c = stop _ _ (λ file. stop_at_start _ _ _)
+returns-in_err-cipher-clause-nothing_past g c = stop _ _ (λ file. stop_at_start _ _ _ _)
 
 pub returns-in_err-read_piece-clause-nothing_past : goal.returns-in_err-read_piece-clause-nothing_past
-returns-in_err-read_piece-clause-nothing_past g c = stop _ _ (λ file. stop_at_start _ _ _)
+returns-in_err-read_piece-clause-nothing_past g c = stop _ _ (λ file. stop_at_start _ _ _ _)
 
 pub loop-number-init : goal.loop-number-init
 loop-number-init g c = (

@@ -11,7 +11,7 @@ use proofs.StreamLemmas.{stop}
 use proofs.passphrase.open_with_passphrase.Goals as goal
 
 pub returns-in_err-read_piece-clause-nothing_past : goal.returns-in_err-read_piece-clause-nothing_past
-returns-in_err-read_piece-clause-nothing_past g c = stop _ _ (λ file. stop_at_start _ _ _)
+returns-in_err-read_piece-clause-nothing_past g c = stop _ _ (λ file. stop_at_start _ _ _ _)
 
 pub returns-in_err-iterations-clause-refused : goal.returns-in_err-iterations-clause-refused
 returns-in_err-iterations-clause-refused g c =
@@ -20,10 +20,10 @@ returns-in_err-iterations-clause-refused g c =
     front_refused _ _ _ _ _ _ c.deref.ensures.value read _ (c.in_err-iterations.ensures.refused _ _)))
 
 pub returns-in_err-iterations-clause-nothing_past : goal.returns-in_err-iterations-clause-nothing_past
-returns-in_err-iterations-clause-nothing_past g c = stop _ _ (λ file. stop_at_start _ _ _)
+returns-in_err-iterations-clause-nothing_past g c = stop _ _ (λ file. stop_at_start _ _ _ _)
 
 pub returns-in_err-unlocked-clause-nothing_past : goal.returns-in_err-unlocked-clause-nothing_past
-returns-in_err-unlocked-clause-nothing_past g c = stop _ _ (λ file. stop_at_start _ _ _)
+returns-in_err-unlocked-clause-nothing_past g c = stop _ _ (λ file. stop_at_start _ _ _ _)
 
 pub returns-clause-accepted : goal.returns-clause-accepted
 returns-clause-accepted g c = ok_then c.open_version.result _ _ c.in_ok-read_piece.ensures.bytes (λ file read.
@@ -49,6 +49,8 @@ returns-clause-refused g c = error_then c.open_version.result _ _ c.in_ok-read_p
     (core_is c.args.passphrase.now c.args.aad.now _ _ _ _ refl read (c.read_header.ensures ∙ ap header_of c.deref-3.ensures.value) c.chain-core.ensures.bytes)
     (ap (secret_of 3 c.in_ok-unlocked.unlocked.key) c.deref-4.ensures.value ∙ c.in_ok-unlocked.ensures.made
     ∙ ap (unlocked c.args.passphrase.now c.args.aad.now) c.deref-2.ensures.value) c.open_version.result
+    (subst (λ l. 64 ≤ length l) c.deref.ensures.value (c.in_ok-iterations.ensures.whole refl))
+    (subst AreAllowed (c.in_ok-iterations.ensures.iterations ∙ ap iterations_of c.deref.ensures.value) c.in_ok-iterations.ensures.allowed)
     c.open_version.ensures.refused)
 
 pub returns-clause-nothing_past : goal.returns-clause-nothing_past
@@ -56,5 +58,7 @@ returns-clause-nothing_past g c = err_then c.open_version.result _ _ c.in_ok-rea
     stopped_by _ _ _ _ _ _ refl read
     (core_is c.args.passphrase.now c.args.aad.now _ _ _ _ refl read (c.read_header.ensures ∙ ap header_of c.deref-3.ensures.value) c.chain-core.ensures.bytes)
     (ap (secret_of 3 c.in_ok-unlocked.unlocked.key) c.deref-4.ensures.value ∙ c.in_ok-unlocked.ensures.made
-    ∙ ap (unlocked c.args.passphrase.now c.args.aad.now) c.deref-2.ensures.value) c.open_version.result
-    _ _ c.open_version.ensures.nothing_past)
+    ∙ ap (unlocked c.args.passphrase.now c.args.aad.now) c.deref-2.ensures.value) c.open_version.result _ _
+    (subst (λ l. 64 ≤ length l) c.deref.ensures.value (c.in_ok-iterations.ensures.whole refl))
+    (subst AreAllowed (c.in_ok-iterations.ensures.iterations ∙ ap iterations_of c.deref.ensures.value) c.in_ok-iterations.ensures.allowed)
+    c.open_version.ensures.nothing_past)
