@@ -14,7 +14,8 @@ use std::os::unix::fs::FileExt;
 ///
 /// # Examples
 ///
-/// An input that counts its calls. From `crates/sealed_file_tests/src/tests/reader.rt`:
+/// An input that counts its calls, and of which one fails: a read then has written half of `buf`. From
+/// `crates/sealed_file_tests/src/tests/reader.rt`:
 ///
 /// ```
 /// impl ReadAt for FailingInput<'_> {
@@ -28,6 +29,8 @@ use std::os::unix::fs::FileExt;
 ///     }
 ///
 ///     fn read_at(&mut self, at: u64, buf: &mut [u8]) -> io::Result<usize> {
+///         let half = buf.len() / 2;
+///         self.bytes.read_at(at, &mut buf[..half])?;
 ///         self.count()?;
 ///         self.bytes.read_at(at, buf)
 ///     }
@@ -43,7 +46,8 @@ pub trait ReadAt {
         ensures value { IfSome (bytes self.old) (λ all. IfOk result (λ n. n ≡ length all)) }
         ensures same { bytes self.new ≡ bytes self.old };
 
-    /// Reads the bytes from `at` on into the front of `buf`, and returns how many: fewer than `buf` has only at the end.
+    /// Reads the bytes from `at` on into the front of `buf`, and returns how many: fewer than `buf` has only at the end. On an
+    /// error any bytes of `buf` may be others.
     fn read_at(&mut self, at: u64, buf: &mut [u8]) -> io::Result<usize>
         ensures within { IfOk result (λ n. n ≤ length buf.new) }
         ensures known { IfSome (bytes self.old) (λ all. IsOk result) }

@@ -1,18 +1,23 @@
-//! Reading at any position, over a file in memory, and over an input that fails.
+//! Reading at any position: over a file in memory, over an input that fails, and over a `File` that is cut.
 
 use crate::tests::checks::{displays, holds, same};
-use crate::tests::sealed_files::{KEY, file_of};
+use crate::tests::sealed_files::{ENDS_EARLY, KEY, file_of};
 use sealed_file::{
     CHUNK_LEN, FileError, FileKey, FileRandom, HEADER_LEN, ReadAt, SEALED_CHUNK_LEN, SealedReader,
     seal_bytes,
 };
 use std::alloc::Global;
+use std::fs::{self, File};
 use std::io::{self, Cursor, ErrorKind};
-use std::process::Abort;
+use std::os::unix::fs::FileExt;
+use std::process::{self, Abort};
 use std::test::Fail;
 
 /// The length of the test file: two whole chunks, and a short one.
 const LEN: usize = 2 * CHUNK_LEN + 5;
+
+/// Where the sealed file begins in the inputs of some tests.
+const START: usize = 6;
 
 /// Places in the test file, how many bytes are asked for, and how many of them come.
 const READS: [(usize, usize, usize); 12] = [
@@ -43,10 +48,17 @@ fn sealed_test_file(alloc: Global) -> Result<Vec<u8>, Fail> {
     Ok(sealed)
 }
 
+/// The test file, sealed, after the `START` bytes `before`.
+fn input_of(alloc: Global) -> Result<Vec<u8>, Fail> {
+    let mut input = b"before".to_vec(alloc)?;
+    input.extend_from_slice(&sealed_test_file(alloc)?)?;
+    Ok(input)
+}
+
 /// Asserts that a read has as many bytes as wanted, and that they are those of the file.
-fn reads(
+fn reads<R: ReadAt + Drop>(
     rt: &impl Abort,
-    reader: &mut SealedReader<Cursor<&[u8]>>,
+    reader: &mut SealedReader<R>,
     file: &[u8],
     (at, buf): (usize, &mut [u8]),
     wanted: usize,
@@ -69,8 +81,7 @@ fn reads(
 #[test]
 fn bytes_at_any_place(rt: HostRuntime) -> Result<(), Fail> {
     let file = file_of(rt.alloc(), LEN)?;
-    let mut input = b"before".to_vec(rt.alloc())?;
-    input.extend_from_slice(&sealed_test_file(rt.alloc())?)?;
+    let input = input_of(rt.alloc())?;
     let key = FileKey::new(&KEY)?;
     let mut reader = SealedReader::new(rt.alloc(), &key, &[], Cursor::new(input.as_slice()), 6)?;
     assert_eq!(rt; reader.len(), LEN as u64);
@@ -138,7 +149,7 @@ fn a_changed_chunk(rt: HostRuntime) -> Result<(), Fail> {
     reads(&rt, &mut reader, &file, (0, &mut buf), 4)
 }
 
-/// An input of which one call fails with `BrokenPipe`. Later calls succeed.
+/// An input of which one call fails with `BrokenPipe`, a read after it has written half of its buffer. Later calls succeed.
 #[derive(Drop)]
 struct FailingInput<'a> {
     bytes: &'a [u8],
@@ -169,6 +180,8 @@ impl ReadAt for FailingInput<'_> {
     }
 
     fn read_at(&mut self, at: u64, buf: &mut [u8]) -> io::Result<usize> {
+        let half = buf.len() / 2;
+        self.bytes.read_at(at, &mut buf[..half])?;
         self.count()?;
         self.bytes.read_at(at, buf)
     }
@@ -207,4 +220,74 @@ fn each_failed_call_ends_it(rt: HostRuntime) -> Result<(), Fail> {
     assert_eq!(rt; count, 4);
     same(&rt, &buf, &[1, 2, 3, 4], "read");
     Ok(())
+}
+
+// The failed read of chunk 0 has overwritten the front of the buffer, where the message of chunk 1 was.
+#[test]
+fn after_a_failed_read(rt: HostRuntime) -> Result<(), Fail> {
+    let file = file_of(rt.alloc(), LEN)?;
+    let bytes = input_of(rt.alloc())?;
+    let key = FileKey::new(&KEY)?;
+    let input = FailingInput {
+        bytes: &bytes,
+        made: 0,
+        failing: 4,
+    };
+    let mut reader = SealedReader::new(rt.alloc(), &key, &[], input, START as u64)?;
+    let mut buf = [7; 4];
+    reads(&rt, &mut reader, &file, (CHUNK_LEN + 1, &mut buf), 4)?;
+    is_of_the_call(&rt, &reader.read_at(0, &mut buf));
+    for at in [CHUNK_LEN + 1, 0, LEN - 4] {
+        reads(&rt, &mut reader, &file, (at, &mut buf), 4)?;
+    }
+    assert_eq!(rt; reader.len(), LEN as u64);
+    Ok(())
+}
+
+/// A file of these bytes, which has no name.
+fn file_with(rt: &HostRuntime, bytes: &[u8]) -> Result<File, Fail> {
+    let id = process::id(rt.process());
+    let name = format!(in rt.alloc(); "/tmp/sealed_file_tests_{id}")?;
+    let file = File::options()
+        .read(true)
+        .write(true)
+        .create_new(true)
+        .open(rt, name.as_str())?;
+    fs::remove_file(rt, name.as_str())?;
+    file.write_all_at(bytes, 0)?;
+    Ok(file)
+}
+
+/// Asserts that a read fails with this message.
+fn fails<R: ReadAt + Drop>(
+    rt: &(impl Abort + AllocGlobal),
+    reader: &mut SealedReader<R>,
+    at: usize,
+    text: &str,
+) -> Result<(), Fail> {
+    match reader.read_at(at as u64, &mut [0; 4]) {
+        Ok(_) => holds(rt, false, text),
+        Err(error) => displays(rt, &error, text)?,
+    }
+    Ok(())
+}
+
+// The file is cut within chunk 1, while the reader holds chunk 0, and gets its bytes again.
+#[test]
+fn over_a_file_that_is_cut(rt: HostRuntime) -> Result<(), Fail> {
+    let file = file_of(rt.alloc(), LEN)?;
+    let bytes = input_of(rt.alloc())?;
+    let input = file_with(&rt, &bytes)?;
+    let other = input.try_clone()?;
+    let key = FileKey::new(&KEY)?;
+    let mut reader = SealedReader::new(rt.alloc(), &key, &[], input, START as u64)?;
+    let mut buf = [7; 4];
+    reads(&rt, &mut reader, &file, (0, &mut buf), 4)?;
+    other.set_len((START + HEADER_LEN + SEALED_CHUNK_LEN + 100) as u64)?;
+    fails(&rt, &mut reader, CHUNK_LEN, ENDS_EARLY)?;
+    reads(&rt, &mut reader, &file, (1, &mut buf), 4)?;
+    fails(&rt, &mut reader, LEN - 1, ENDS_EARLY)?;
+    assert_eq!(rt; reader.len(), LEN as u64);
+    other.write_all_at(&bytes, 0)?;
+    reads(&rt, &mut reader, &file, (LEN - 1, &mut buf), 1)
 }
