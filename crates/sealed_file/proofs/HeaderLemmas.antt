@@ -12,7 +12,7 @@ use specs.declared.error.FileError.TheVariants.{AnotherMagic, AnotherVersion, Wr
 use specs.Derivation.{cmac_of_block, commitment, derived_block, first_subkey}
 use specs.Format.{ChunkKey, Secret, magic_and_version, fresh_key}
 use specs.Opening.{HasHeader, chunk_key, context_of, header_len, header_of}
-use specs.Refusals.{HeaderRefuses, IsOfAnotherKey, IsVersion}
+use specs.Refusals.{HeaderRefuses, IsOfAnotherKey, IsVersion, VersionRefuses}
 
 -- a header's header is the header
 pub header_of-header_of : (file : List ℕ) → header_of (header_of file) ≡ header_of file
@@ -76,6 +76,26 @@ version_at bytes version front = sym (get_or-take 9 bytes 8 0 (omega arith)) ∙
 
 pub magic_at : (bytes : List ℕ) (version : ℕ) → take 9 bytes ≡ magic_and_version version → take 8 bytes ≡ codes "SEALFILE"
 magic_at bytes version front = sym (take-take 8 9 bytes (omega arith)) ∙ ap (take 8) front ∙ take_at (codes "SEALFILE") (version ∷ []) 8 refl
+
+-- what is wrong with the first bytes is wrong with all
+pub version_fails : (version n : ℕ) → 9 ≤ n → (bytes : List ℕ) (error : FileError) → VersionRefuses version (take n bytes) error
+    → VersionRefuses version bytes error
+version_fails version n enough bytes EndsEarly short = omega (arith, short, enough, length-take n bytes)
+version_fails version n enough bytes AnotherMagic (size, other) =
+    (omega (arith, size, length-take n bytes), λ same. other (take-take 8 n bytes (omega (arith, enough)) ∙ same))
+version_fails version n enough bytes (AnotherVersion found) (size, magic, is, not_it) = (
+  omega (arith, size, length-take n bytes),
+  sym (take-take 8 n bytes (omega (arith, enough))) ∙ magic,
+  sym (get_or-take n bytes 8 0 (omega (arith, enough))) ∙ is,
+  not_it,
+)
+version_fails version n enough bytes error h = absurd h
+
+-- and is wrong with a header
+pub header_fails : (s : Secret) (bytes : List ℕ) (error : FileError) → VersionRefuses s.version bytes error → HeaderRefuses s bytes error
+header_fails s bytes EndsEarly short = inl short
+header_fails s bytes WrongKey h = absurd h
+header_fails s bytes error h = h
 
 -- ---- what is read from a header
 

@@ -10,8 +10,9 @@ use specs.declared.error.FileError.TheVariants.{EndsEarly, Iterations, Io}
 use specs.Format.{ChunkKey, Secret, fresh_key, secret_of, with_header}
 use specs.Opening.{HasHeader, IsSealed, header_of, opened_file}
 use specs.Passphrase.{AreAllowed, FrontRefuses, HasIterations, OpensBy, PassphraseRefuses, core_of, fresh_passphrase_key, iteration_bytes, iterations_of, opened_by, passphrase_key, random_of, unlocked}
-use specs.Refusals.{HeaderRefuses, OpenRefuses}
+use specs.Refusals.{IsVersion, OpenRefuses, VersionRefuses}
 use specs.Streams.{AppendsRight, AppendsRightBy, TakesFront}
+use Rattle.sealed_file.proofs.HeaderLemmas.{version_fails}
 
 -- ---- what a result says of known bytes
 
@@ -56,22 +57,18 @@ module _ (passphrase aad file seen read_bytes : List ℕ) (rest : Option (List �
   whole_same : 64 ≤ length seen → 64 ≤ length file
   whole_same whole = omega (arith, whole, ap length seen_is, length-take 64 file)
 
-  front_fails : (error : FileError) → FrontRefuses passphrase aad seen error → FrontRefuses passphrase aad file error
-  front_fails EndsEarly (inl short) = inl (omega (arith, short, ap length seen_is, length-take 64 file))
-  front_fails EndsEarly (inr (version, short)) = inr (
-    record { front = sym (ap (take 9) seen_is ∙ take-take 9 64 file (omega arith)) ∙ version.front },
-    omega (arith, short, ap length seen_is, length-take 64 file),
-  )
-  front_fails (Iterations n) (version, whole, is, wrong) = (
-    record { front = sym (ap (take 9) seen_is ∙ take-take 9 64 file (omega arith)) ∙ version.front },
-    whole_same whole,
-    rw bytes_same at is,
-    rw bytes_same at wrong,
-  )
-  front_fails error h = subst (λ s. HeaderRefuses s (header_of file) error) unlocked_same
-      (subst (λ l. HeaderRefuses (unlocked passphrase aad seen) l error) header_same h)
+  version_same : IsVersion 3 seen → IsVersion 3 file
+  version_same version = record { front = sym (ap (take 9) seen_is ∙ take-take 9 64 file (omega arith)) ∙ version.front }
 
-  pub front_refused : (error : FileError) → FrontRefuses passphrase aad seen error → PassphraseRefuses passphrase aad file error
+  front_fails : (error : FileError) → FrontRefuses seen error → FrontRefuses file error
+  front_fails EndsEarly (inl short) = inl (omega (arith, short, ap length seen_is, length-take 64 file))
+  front_fails EndsEarly (inr (version, short)) =
+      inr (version_same version, omega (arith, short, ap length seen_is, length-take 64 file))
+  front_fails (Iterations n) (version, whole, is, wrong) =
+      (version_same version, whole_same whole, rw bytes_same at is, rw bytes_same at wrong)
+  front_fails error h = version_fails 3 64 (omega arith) file error (subst (λ l. VersionRefuses 3 l error) seen_is h)
+
+  pub front_refused : (error : FileError) → FrontRefuses seen error → PassphraseRefuses passphrase aad file error
   front_refused (Io e) h = tt
   front_refused error h = inl (front_fails error h)
 
@@ -134,15 +131,11 @@ module _ (passphrase aad file seen read_bytes : List ℕ) (rest : Option (List �
         stopped_for old now (has_iterations whole allowed) (of_file (λ s core. AppendsRight s core old now) h)
 
 -- a header that doesn't begin as one of version 3
-pub front_of_header : (passphrase aad file header : List ℕ) → header ≡ header_of file → (error : FileError)
-    → HeaderRefuses (unlocked passphrase aad file) header error → FrontRefuses passphrase aad file error
-front_of_header passphrase aad file header is EndsEarly (inl short) = inl (omega (arith, short, ap length is, length-take 60 file))
-front_of_header passphrase aad file header is EndsEarly (inr (version, short)) = inr (
-  record { front = sym (ap (take 9) is ∙ take-take 9 60 file (omega arith)) ∙ version.front },
-  omega (arith, short, ap length is, length-take 60 file),
-)
-front_of_header passphrase aad file header is (Iterations n) h = absurd h
-front_of_header passphrase aad file header is error h = subst (λ l. HeaderRefuses (unlocked passphrase aad file) l error) is h
+pub front_of_header : (file header : List ℕ) → header ≡ header_of file → (error : FileError)
+    → VersionRefuses 3 header error → FrontRefuses file error
+front_of_header file header is EndsEarly short = inl (omega (arith, short, ap length is, length-take 60 file))
+front_of_header file header is (Iterations n) h = absurd h
+front_of_header file header is error h = version_fails 3 60 (omega arith) file error (subst (λ l. VersionRefuses 3 l error) is h)
 
 -- ---- sealing
 

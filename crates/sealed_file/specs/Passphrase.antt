@@ -8,7 +8,7 @@ use specs.declared.error.FileError.{FileError}
 use specs.declared.error.FileError.TheVariants.{EndsEarly, Iterations, Io}
 use specs.Format.{ChunkKey, Secret, fresh_key, secret_of, with_header}
 use specs.Opening.{IsSealed, header_of, opened_file}
-use specs.Refusals.{HeaderRefuses, IsVersion, OpenRefuses}
+use specs.Refusals.{IsVersion, OpenRefuses, VersionRefuses}
 
 -- the key of 32 bytes that a passphrase has for a file: PBKDF2 with HMAC-SHA-256 (RFC 8018 section 5.2)
 abbrev pub passphrase_key : (passphrase random : List ℕ) (iterations : ℕ) → List ℕ
@@ -66,14 +66,14 @@ pub record HasIterations (file : List ℕ) : Type 0 where
   pub allowed : AreAllowed (iterations_of file)
 
 -- why bytes don't begin as a file of version 3
-abbrev pub FrontRefuses : (passphrase aad file : List ℕ) → FileError → Type 0
-FrontRefuses passphrase aad file EndsEarly = (length file < 9) ⊎ (IsVersion 3 file × (length file < 64))
-FrontRefuses passphrase aad file (Iterations n) =
+abbrev pub FrontRefuses : (file : List ℕ) → FileError → Type 0
+FrontRefuses file EndsEarly = (length file < 9) ⊎ (IsVersion 3 file × (length file < 64))
+FrontRefuses file (Iterations n) =
     IsVersion 3 file × (64 ≤ length file) × (n ≡ iterations_of file) × ¬ AreAllowed (iterations_of file)
-FrontRefuses passphrase aad file error = HeaderRefuses (unlocked passphrase aad file) (header_of file) error
+FrontRefuses file error = VersionRefuses 3 file error
 
 -- why a file doesn't open under a passphrase: the key is compared and chunks are opened only with iterations that are allowed
 abbrev pub PassphraseRefuses : (passphrase aad file : List ℕ) → FileError → Type 0
 PassphraseRefuses passphrase aad file (Io error) = ⊤
-PassphraseRefuses passphrase aad file error = FrontRefuses passphrase aad file error
+PassphraseRefuses passphrase aad file error = FrontRefuses file error
     ⊎ (HasIterations file × OpenRefuses (unlocked passphrase aad file) (core_of file) error)

@@ -22,14 +22,19 @@ pub record IsOfAnotherKey (s : Secret) (header : List ℕ) : Type 0 where
   pub size : length header ≡ 60
   pub other : drop 28 header ≢ commitment s.key (take 12 (drop 9 header))
 
+-- why bytes don't begin with the magic and this version
+abbrev pub VersionRefuses : (version : ℕ) (header : List ℕ) → FileError → Type 0
+VersionRefuses version header EndsEarly = length header < 9
+VersionRefuses version header AnotherMagic = (9 ≤ length header) × (take 8 header ≢ codes "SEALFILE")
+VersionRefuses version header (AnotherVersion found) = (9 ≤ length header) × (take 8 header ≡ codes "SEALFILE")
+    × (slice_index header 8 ≡ found) × (found ≢ version)
+VersionRefuses version header error = ⊥
+
 -- why the bytes are not a header under this key
 abbrev pub HeaderRefuses : (s : Secret) (header : List ℕ) → FileError → Type 0
 HeaderRefuses s header EndsEarly = (length header < 9) ⊎ (IsVersion s.version header × (length header < 60))
-HeaderRefuses s header AnotherMagic = (9 ≤ length header) × (take 8 header ≢ codes "SEALFILE")
-HeaderRefuses s header (AnotherVersion version) = (9 ≤ length header) × (take 8 header ≡ codes "SEALFILE")
-    × (slice_index header 8 ≡ version) × (version ≢ s.version)
 HeaderRefuses s header WrongKey = IsOfAnotherKey s header
-HeaderRefuses s header error = ⊥
+HeaderRefuses s header error = VersionRefuses s.version header error
 
 -- why a sealed chunk does not open: the tag of the other kind of chunk shows that the file was cut after the chunk, or goes on
 -- after it

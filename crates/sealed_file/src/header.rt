@@ -1,9 +1,9 @@
 //! The header of a sealed file, and the key that follows from it.
 
 ghost use Rattle.std.specs.Prelude.{ℕ, List, ◌≡◌, ◌+◌, ◌≤◌, ◌↔◌, ◌++◌, length, take, drop, IsOk, IfOk, IfErr};
-ghost use Rattle.sealed_file.specs.Format.{Secret, fresh_key, magic_and_version, secret, secret_of};
+ghost use Rattle.sealed_file.specs.Format.{fresh_key, magic_and_version, secret, secret_of};
 ghost use Rattle.sealed_file.specs.Opening.{HasHeader, chunk_key, header_of};
-ghost use Rattle.sealed_file.specs.Refusals.{HeaderRefuses, IsVersion};
+ghost use Rattle.sealed_file.specs.Refusals.{HeaderRefuses, IsVersion, VersionRefuses};
 
 use crate::aad::ChunkAad;
 use crate::derivation::{commitment, derived_key};
@@ -183,8 +183,7 @@ fn random_in(header: &[u8; HEADER_LEN]) -> FileRandom
 /// Fails unless a header begins with the magic and this version.
 pub(crate) fn check_front(version: u8, header: &[u8]) -> Result<(), FileError>
     ensures front { IsOk result → IsVersion version header.now }
-    ensures refused { (s : Secret) → s.version ≡ version
-        → IfErr result (λ error. HeaderRefuses s header.now error) }
+    ensures refused { IfErr result (λ error. VersionRefuses version header.now error) }
 {
     let Some(front) = header.first_chunk::<FRONT_LEN>() else {
         return Err(FileError::EndsEarly);

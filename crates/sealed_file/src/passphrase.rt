@@ -1,6 +1,6 @@
 //! Sealing and opening files under a passphrase: version 3 of the format.
 
-ghost use Rattle.std.specs.Prelude.{ℕ, List, ◌≡◌, ◌-◌, ◌^◌, ◌<◌, ◌≤◌, ◌++◌, length, IsOk, IfOk, IfErr, IfSome, OnOk, OnErr};
+ghost use Rattle.std.specs.Prelude.{◌≡◌, ◌-◌, ◌^◌, ◌<◌, ◌≤◌, ◌++◌, length, IsOk, IfOk, IfErr, IfSome, OnOk, OnErr};
 ghost use Rattle.std.specs.Io.KnownBytes.{Appends};
 ghost use Rattle.sealed_file.specs.Format.{chunk_len, last_piece, sealed_file, secret_of};
 ghost use Rattle.sealed_file.specs.Opening.{header_of};
@@ -104,8 +104,7 @@ pub fn iterations_in(file: &[u8]) -> Result<u32, FileError>
     ensures whole { IsOk result → 64 ≤ length file.now }
     ensures iterations { IfOk result (λ iterations. iterations ≡ iterations_of file.now) }
     ensures allowed { IfOk result (λ iterations. AreAllowed iterations) }
-    ensures refused { (passphrase aad : List ℕ) → IfErr result (λ error.
-        FrontRefuses passphrase aad file.now error) }
+    ensures refused { IfErr result (λ error. FrontRefuses file.now error) }
 {
     check_front(PASSPHRASE_VERSION, read_header(file))?;
     if file.len() < PASSPHRASE_HEADER_LEN {

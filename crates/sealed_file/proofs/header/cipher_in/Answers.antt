@@ -3,7 +3,7 @@ use Rattle.std.proofs.lemmas.Result.{err_from_is_err_and}
 use Rattle.sealed_file.specs.declared.error.FileError.TheVariants.{EndsEarly, WrongKey}
 use Rattle.sealed_file.specs.Format.{ChunkKey, secret_of, fresh_key}
 use Rattle.sealed_file.proofs
-use proofs.HeaderLemmas.{another_key, refused_is_none}
+use proofs.HeaderLemmas.{another_key, header_fails, refused_is_none}
 use proofs.header.cipher_in.Goals as goal
 
 pub returns-in_err-check_front-clause-accepted : goal.returns-in_err-check_front-clause-accepted
@@ -12,14 +12,14 @@ returns-in_err-check_front-clause-accepted c =
     let s = secret_of c.args.version c.args.key.now c.args.aad.now in
     rw p.1 (
       λ e. cc,
-      λ has. absurd (refused_is_none s c.args.header.now _ (c.in_err-check_front.ensures.refused s refl) has),
+      λ has. absurd (refused_is_none s c.args.header.now _ (header_fails s c.args.header.now _ c.in_err-check_front.ensures.refused) has),
     )
 
 pub returns-in_err-check_front-clause-refused : goal.returns-in_err-check_front-clause-refused
 returns-in_err-check_front-clause-refused c =
     let p = err_from_is_err_and c.from_residual.result c.from_residual.ensures.1 in
     let s = secret_of c.args.version c.args.key.now c.args.aad.now in
-    rw (p.1, p.2) (c.in_err-check_front.ensures.refused s refl)
+    rw (p.1, p.2) (header_fails s c.args.header.now _ c.in_err-check_front.ensures.refused)
 
 pub returns-in_default-clause-accepted : goal.returns-in_default-clause-accepted
 returns-in_default-clause-accepted c = (

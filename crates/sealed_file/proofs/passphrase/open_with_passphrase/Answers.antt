@@ -17,7 +17,7 @@ pub returns-in_err-iterations-clause-refused : goal.returns-in_err-iterations-cl
 returns-in_err-iterations-clause-refused g c =
     let p = err_from_is_err_and c.from_residual-in_err-iterations.result c.from_residual-in_err-iterations.ensures.1 in
     rw (p.1, p.2) (IfSome_then _ c.in_ok-read_piece.ensures.bytes (λ file read.
-    front_refused _ _ _ _ _ _ c.deref.ensures.value read _ (c.in_err-iterations.ensures.refused _ _)))
+    front_refused _ _ _ _ _ _ c.deref.ensures.value read _ c.in_err-iterations.ensures.refused))
 
 pub returns-in_err-iterations-clause-nothing_past : goal.returns-in_err-iterations-clause-nothing_past
 returns-in_err-iterations-clause-nothing_past g c = stop _ _ (λ file. stop_at_start _ _ _ _)
