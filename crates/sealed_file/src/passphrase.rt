@@ -97,8 +97,8 @@ pub fn seal_with_passphrase<R: Read, W: Write>(
 
 /// Returns the iterations in the header of a file of version 3 that begins with these bytes. The commitment is not compared.
 ///
-/// Fails with `AnotherMagic`, `AnotherVersion`, `EndsEarly` if there is no whole header, and `Iterations` if they are 0 or more
-/// than `MAX_ITERATIONS`.
+/// Fails with `EndsEarly` if the bytes end within the magic or the version, and otherwise with the first that is so: `AnotherMagic`;
+/// `AnotherVersion`; `EndsEarly`, if they end within the header; and `Iterations`, if those are 0 or more than `MAX_ITERATIONS`.
 pub fn iterations_in(file: &[u8]) -> Result<u32, FileError>
     ensures front { IsOk result → IsVersion 3 (header_of file.now) }
     ensures whole { IsOk result → 64 ≤ length file.now }
@@ -152,7 +152,8 @@ fn derive_key_and_aad(
 /// Opens the file in `input` that is sealed under a passphrase, and writes the file to `output`, as `open_with_aad` does.
 ///
 /// Fails with the errors of `open`: `AnotherVersion` for a file that is sealed under a key, and `WrongKey` for another passphrase.
-/// Fails with `Iterations` if the iterations in the header are 0 or more than `MAX_ITERATIONS`, before it derives the key.
+/// Fails with `Iterations` if a whole header of version 3 has 0 iterations or more than `MAX_ITERATIONS`, before it derives the key
+/// and writes anything.
 pub fn open_with_passphrase<R: Read, W: Write>(
     alloc: Global,
     passphrase: &[u8],

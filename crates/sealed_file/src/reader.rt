@@ -28,7 +28,7 @@ struct Layout {
 
 /// A sealed file that is read at any position.
 ///
-/// It keeps the message of one chunk in memory, that of the last call.
+/// It keeps the message of one chunk in memory: that of the last call that read bytes, or none after an error.
 ///
 /// # Examples
 ///
@@ -350,8 +350,8 @@ impl<R: ReadAt + Drop> SealedReader<R> {
     /// at or past the end or `buf` is empty, and at most up to the end of a chunk.
     ///
     /// It allocates nothing. Fails with the errors of `open` for the chunk, with `EndsEarly` if the input has become shorter, and
-    /// with `Io` if reading fails. `buf` is then unchanged, and the reader can still be used: it has dropped the chunk that it kept,
-    /// so that the next call reads its chunk from the input.
+    /// with `Io` if reading fails. `buf` is then unchanged, and the reader can still be used: it keeps no chunk, so that the next
+    /// call reads its chunk from the input.
     pub fn read_at(&mut self, offset: u64, buf: &mut [u8]) -> Result<usize, FileError>
         ensures nothing { (length buf.old ≡ 0) ⊎ (self.old.len ≤ offset) → IsOk result }
         ensures count { IfOk result (λ n. n ≡ min (length buf.old)
