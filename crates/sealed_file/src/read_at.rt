@@ -14,8 +14,8 @@ use std::os::unix::fs::FileExt;
 ///
 /// # Examples
 ///
-/// An input that counts its calls, and of which one fails: a read then has written half of `buf`. From
-/// `crates/sealed_file_tests/src/tests/reader.rt`:
+/// An input that counts its calls, and fails at one of them. A read has written half of `buf` by then.
+/// From `crates/sealed_file_tests/src/tests/reader.rt`:
 ///
 /// ```
 /// impl ReadAt for FailingInput<'_> {
