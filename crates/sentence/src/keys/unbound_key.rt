@@ -1,0 +1,12 @@
+//! Keys without a role.
+
+use crate::library;
+use aead_ciphers::aead::{Algorithm, UnboundKey, Unspecified};
+
+impl library::UnboundKey for UnboundKey {
+    ghost key = { λ key. key };
+
+    fn new(algorithm: &'static Algorithm, key_bytes: &[u8]) -> Result<Self, Unspecified> {
+        UnboundKey::new(algorithm, key_bytes)
+    }
+}

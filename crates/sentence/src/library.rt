@@ -1,0 +1,179 @@
+//! A library: the listed clauses of its calls.
+
+ghost use Rattle.std.specs.Prelude.{◌≡◌, ◌↔◌, ◌-◌, ℕ, List, ⊤, length, IsOk, IfOk, OnOk, OnErr, is_ok};
+ghost use Rattle.aead_ciphers_base.specs.Aes.{aes};
+ghost use Rattle.aead_ciphers_base.specs.Values.{aad_bytes};
+ghost use Rattle.aead_ciphers.specs.AeadKey.{AeadKey};
+ghost use Rattle.aead_ciphers.specs.Algorithm.{key_len};
+ghost use Rattle.aead_ciphers.specs.BoundState.{BoundState};
+ghost use Rattle.aead_ciphers.specs.Steps.{OpenStep, SealStep, with_tag};
+ghost use Rattle.aead_ciphers.specs.Gcm.{Fits, Opened, OpenedAttached, gcm_decrypted, gcm_encrypted, gcm_sealed, gcm_tag};
+ghost use Rattle.aead_ciphers.specs.Runs.{JobStep, Runs};
+
+use aead_ciphers::aead::{Aad, Algorithm, InOut, Nonce, NonceSequence, Tag, Unspecified};
+use aead_ciphers::session::Job;
+use std::ops::RangeFrom;
+
+/// Row `UnboundKey::new`.
+pub trait UnboundKey: Drop {
+    // The algorithm and the bytes.
+    ghost key: { Self → AeadKey };
+
+    /// Makes a key.
+    fn new(algorithm: &'static Algorithm, key_bytes: &[u8]) -> Result<Self, Unspecified>
+    where
+        Self: Sized,
+        ensures accepted { IsOk result ↔ (length key_bytes.now ≡ key_len algorithm.now) }
+        ensures made { IfOk result (λ made. key made ≡ record { algorithm = algorithm.now; bytes = key_bytes.now }) };
+}
+
+/// Rows of `LessSafeKey`.
+pub trait LessSafeKey<U: UnboundKey>: Drop {
+    // The algorithm and the bytes.
+    ghost key: { Self → AeadKey };
+
+    /// Takes the key over.
+    fn new(unbound: U) -> Self
+    where
+        Self: Sized,
+        ensures { key result ≡ U.key unbound };
+
+    /// Seals.
+    fn seal_in_place_separate_tag(
+        &self,
+        nonce: Nonce,
+        aad: Aad<'_>,
+        in_out: &mut [u8],
+    ) -> Result<Tag, Unspecified>
+        ensures accepted { IsOk result ↔ Fits (length (aad_bytes aad.entry)) (length in_out.old) }
+        ensures ciphertext { OnOk result (in_out.new ≡ gcm_encrypted (aes (key self.now).bytes) nonce in_out.old) }
+        ensures tag { IfOk result (λ tag. tag ≡ gcm_tag (aes (key self.now).bytes) nonce (aad_bytes aad.entry) in_out.new) }
+        ensures refused { OnErr result (in_out.new ≡ in_out.old) };
+
+    /// Opens with a separate tag.
+    fn open_in_place_separate_tag_to_front(
+        &self,
+        nonce: Nonce,
+        aad: Aad<'_>,
+        tag: Tag,
+        in_out: &mut [u8],
+        ciphertext: RangeFrom<usize>,
+    ) -> Result<usize, Unspecified>
+        ensures opened { Opened (aes (key self.now).bytes) nonce (aad_bytes aad.entry) tag ciphertext.start
+            in_out.old (is_ok result) in_out.new }
+        ensures count { IfOk result (λ n. n ≡ length in_out.old - ciphertext.start) };
+
+    /// Opens with the tag attached.
+    fn open_within_to_front(
+        &self,
+        nonce: Nonce,
+        aad: Aad<'_>,
+        in_out: &mut [u8],
+        ciphertext_and_tag: RangeFrom<usize>,
+    ) -> Result<usize, Unspecified>
+        ensures opened { OpenedAttached (aes (key self.now).bytes) nonce (aad_bytes aad.entry) ciphertext_and_tag.start
+            in_out.old (is_ok result) in_out.new }
+        ensures count { IfOk result (λ n. n ≡ length in_out.old - 16 - ciphertext_and_tag.start) };
+
+    /// Seals a buffer that can grow.
+    fn seal_in_place_append_tag<B: InOut>(
+        &self,
+        nonce: Nonce,
+        aad: Aad<'_>,
+        in_out: &mut B,
+    ) -> Result<(), Unspecified>
+        ensures sealed { OnOk result (B.bytes in_out.new
+            ≡ gcm_sealed (aes (key self.now).bytes) nonce (aad_bytes aad.entry) (B.bytes in_out.old)) }
+        ensures refused { OnErr result (B.bytes in_out.new ≡ B.bytes in_out.old) }
+        ensures granted { IsOk result → B.may_grant in_out.old }
+        ensures fits { IsOk result → Fits (length (aad_bytes aad.entry)) (length (B.bytes in_out.old)) }
+        ensures refuses { OnErr result (Fits (length (aad_bytes aad.entry)) (length (B.bytes in_out.old))
+            → B.may_refuse in_out.old) };
+
+    /// Opens one buffer to another.
+    fn open_to(
+        &self,
+        nonce: Nonce,
+        aad: Aad<'_>,
+        tag: Tag,
+        ciphertext: &[u8],
+        out: &mut [u8],
+    ) -> Result<(), Unspecified>
+        requires { length out.old ≡ length ciphertext.now }
+        ensures accepted { IsOk result ↔ (Fits (length (aad_bytes aad.entry)) (length ciphertext.now)
+            × (tag ≡ gcm_tag (aes (key self.now).bytes) nonce (aad_bytes aad.entry) ciphertext.now)) }
+        ensures plaintext { OnOk result (out.new ≡ gcm_decrypted (aes (key self.now).bytes) nonce ciphertext.now) }
+        ensures refused { OnErr result (out.new ≡ out.old) };
+}
+
+/// Rows `BoundKey::new` and `BoundKey` for `SealingKey`.
+pub trait SealingKey<U: UnboundKey, N: NonceSequence>: Drop {
+    // The key and its sequence.
+    ghost state: { Self → BoundState N };
+
+    /// Binds the key.
+    fn new(unbound: U, nonces: N) -> Self
+    where
+        Self: Sized,
+        ensures key_kept { (state result).key ≡ U.key unbound }
+        ensures sequence_kept { (state result).sequence ≡ nonces };
+
+    /// Seals a buffer that can grow.
+    fn seal_in_place_append_tag<B: InOut>(
+        &mut self,
+        aad: Aad<'_>,
+        in_out: &mut B,
+    ) -> Result<(), Unspecified>
+        ensures key_kept { (state self.new).key ≡ (state self.old).key }
+        ensures step { SealStep N.spent N.is_closed (B.may_refuse in_out.old) (B.may_grant in_out.old)
+            (state self.old) (state self.new) (aad_bytes aad.entry) (B.bytes in_out.old) (B.bytes in_out.new) (is_ok result) };
+
+    /// Seals, and returns the tag.
+    fn seal_in_place_separate_tag(
+        &mut self,
+        aad: Aad<'_>,
+        in_out: &mut [u8],
+    ) -> Result<Tag, Unspecified>
+        ensures key_kept { (state self.new).key ≡ (state self.old).key }
+        ensures step { SealStep N.spent N.is_closed ⊥ ⊤
+            (state self.old) (state self.new) (aad_bytes aad.entry) in_out.old (with_tag in_out.new result) (is_ok result) };
+}
+
+/// Rows `BoundKey::new` and `BoundKey` for `OpeningKey`.
+pub trait OpeningKey<U: UnboundKey, N: NonceSequence>: Drop {
+    // The key and its sequence.
+    ghost state: { Self → BoundState N };
+
+    /// Binds the key.
+    fn new(unbound: U, nonces: N) -> Self
+    where
+        Self: Sized,
+        ensures key_kept { (state result).key ≡ U.key unbound }
+        ensures sequence_kept { (state result).sequence ≡ nonces };
+
+    /// Opens with the tag attached.
+    fn open_within_to_front(
+        &mut self,
+        aad: Aad<'_>,
+        in_out: &mut [u8],
+        ciphertext_and_tag: RangeFrom<usize>,
+    ) -> Result<usize, Unspecified>
+        ensures key_kept { (state self.new).key ≡ (state self.old).key }
+        ensures step { OpenStep N.spent N.is_closed (state self.old) (state self.new) (aad_bytes aad.entry)
+            ciphertext_and_tag.start in_out.old in_out.new (is_ok result) }
+        ensures count { IfOk result (λ n. n ≡ length in_out.old - 16 - ciphertext_and_tag.start) };
+}
+
+/// Row `run`.
+pub trait Session<
+    U: UnboundKey,
+    S: NonceSequence,
+    O: NonceSequence,
+    SK: SealingKey<U, S>,
+    OK: OpeningKey<U, O>,
+> {
+    /// Runs the jobs.
+    fn run(sealing: &mut SK, opening: &mut OK, jobs: &mut [Job])
+        ensures ran { Runs (JobStep S.spent S.is_closed S.origin O.spent O.is_closed O.origin)
+            (SK.state sealing.old, OK.state opening.old) (SK.state sealing.new, OK.state opening.new) jobs.old jobs.new };
+}
