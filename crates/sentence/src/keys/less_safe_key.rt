@@ -22,6 +22,26 @@ impl<K: GcmKey> library::LessSafeKey<UnboundKey> for LessSafeKey<K> {
         LessSafeKey::seal_in_place_separate_tag(self, nonce, aad, in_out)
     }
 
+    fn seal_in_place_append_tag<B: InOut>(
+        &self,
+        nonce: Nonce,
+        aad: Aad<'_>,
+        in_out: &mut B,
+    ) -> Result<(), Unspecified> {
+        LessSafeKey::seal_in_place_append_tag(self, nonce, aad, in_out)
+    }
+
+    fn open_in_place_separate_tag<'a>(
+        &self,
+        nonce: Nonce,
+        aad: Aad<'_>,
+        tag: Tag,
+        in_out: &'a mut [u8],
+        ciphertext: RangeFrom<usize>,
+    ) -> Result<&'a mut [u8], Unspecified> {
+        LessSafeKey::open_in_place_separate_tag(self, nonce, aad, tag, in_out, ciphertext)
+    }
+
     fn open_in_place_separate_tag_to_front(
         &self,
         nonce: Nonce,
@@ -31,6 +51,16 @@ impl<K: GcmKey> library::LessSafeKey<UnboundKey> for LessSafeKey<K> {
         ciphertext: RangeFrom<usize>,
     ) -> Result<usize, Unspecified> {
         LessSafeKey::open_in_place_separate_tag_to_front(self, nonce, aad, tag, in_out, ciphertext)
+    }
+
+    fn open_within<'a>(
+        &self,
+        nonce: Nonce,
+        aad: Aad<'_>,
+        in_out: &'a mut [u8],
+        ciphertext_and_tag: RangeFrom<usize>,
+    ) -> Result<&'a mut [u8], Unspecified> {
+        LessSafeKey::open_within(self, nonce, aad, in_out, ciphertext_and_tag)
     }
 
     fn open_within_to_front(
@@ -43,13 +73,22 @@ impl<K: GcmKey> library::LessSafeKey<UnboundKey> for LessSafeKey<K> {
         LessSafeKey::open_within_to_front(self, nonce, aad, in_out, ciphertext_and_tag)
     }
 
-    fn seal_in_place_append_tag<B: InOut>(
+    fn open_in_place<'a>(
         &self,
         nonce: Nonce,
         aad: Aad<'_>,
-        in_out: &mut B,
-    ) -> Result<(), Unspecified> {
-        LessSafeKey::seal_in_place_append_tag(self, nonce, aad, in_out)
+        in_out: &'a mut [u8],
+    ) -> Result<&'a mut [u8], Unspecified> {
+        LessSafeKey::open_in_place(self, nonce, aad, in_out)
+    }
+
+    fn open_in_place_to_front(
+        &self,
+        nonce: Nonce,
+        aad: Aad<'_>,
+        in_out: &mut [u8],
+    ) -> Result<usize, Unspecified> {
+        LessSafeKey::open_in_place_to_front(self, nonce, aad, in_out)
     }
 
     fn open_to(

@@ -13,6 +13,15 @@ impl<K: GcmKey, N: NonceSequence + Drop> library::OpeningKey<UnboundKey, N> for 
         BoundKey::new(unbound, nonces)
     }
 
+    fn open_within<'a>(
+        &mut self,
+        aad: Aad<'_>,
+        in_out: &'a mut [u8],
+        ciphertext_and_tag: RangeFrom<usize>,
+    ) -> Result<&'a mut [u8], Unspecified> {
+        OpeningKey::open_within(self, aad, in_out, ciphertext_and_tag)
+    }
+
     fn open_within_to_front(
         &mut self,
         aad: Aad<'_>,
@@ -20,5 +29,21 @@ impl<K: GcmKey, N: NonceSequence + Drop> library::OpeningKey<UnboundKey, N> for 
         ciphertext_and_tag: RangeFrom<usize>,
     ) -> Result<usize, Unspecified> {
         OpeningKey::open_within_to_front(self, aad, in_out, ciphertext_and_tag)
+    }
+
+    fn open_in_place<'a>(
+        &mut self,
+        aad: Aad<'_>,
+        in_out: &'a mut [u8],
+    ) -> Result<&'a mut [u8], Unspecified> {
+        OpeningKey::open_in_place(self, aad, in_out)
+    }
+
+    fn open_in_place_to_front(
+        &mut self,
+        aad: Aad<'_>,
+        in_out: &mut [u8],
+    ) -> Result<usize, Unspecified> {
+        OpeningKey::open_in_place_to_front(self, aad, in_out)
     }
 }
