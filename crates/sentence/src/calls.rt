@@ -1,4 +1,4 @@
-//! Lists of calls of keys that are bound to a nonce sequence.
+//! The sentence about lists of calls of keys that are bound to nonce sequences.
 
 ghost use Rattle.std.specs.Prelude.{◌≡◌, ◌↔◌, length, IsOk, IfOk, OnErr};
 ghost use Rattle.aead_ciphers.specs.Algorithm.{key_len};
@@ -10,7 +10,8 @@ use crate::library::{OpeningKey, SealingKey, Session, UnboundKey};
 use aead_ciphers::aead::{Algorithm, NonceSequence, Unspecified};
 use aead_ciphers::session::Job;
 
-/// Makes both keys of these bytes, and runs a list of calls with them.
+/// Makes a sealing key and an opening key of these bytes, and runs a list of calls with them, in order. Fails if the key has another
+/// length than the algorithm's.
 #[tactic(auto, using(crate::proofs::SentenceLemmas::sentence, aead_ciphers::proofs::FreshLemmas::fresh_run))]
 pub fn every_list_of_calls<
     U: UnboundKey,
