@@ -1,4 +1,4 @@
-/* What deerlapse.h promises of lengths above the limits, of the wipes, and of null pointers to the calls that take secrets:
+/* What deerlapse.h promises of each call that has a limit, of the wipes, and of null pointers to the calls that take secrets:
  * tools/package compiles it by each standard, and by clang under the undefined behavior sanitizer. */
 #include "deerlapse.h"
 #include <stdio.h>
@@ -40,54 +40,241 @@ static size_t left_by_wipes(void) {
     return left(&all, sizeof all);
 }
 
-/* The inline calls of so many bytes, which are more than there are, return false. */
-static bool refused(const deerlapse_key *key, const uint8_t *in, size_t len, uint8_t *out) {
-    uint8_t tag[DEERLAPSE_TAG_LEN] = {0};
-    return !deerlapse_key_seal_to(key, nonce, NULL, 0, in, len, out, tag) &&
-           !deerlapse_key_open_to(key, nonce, NULL, 0, in, len, out, tag) &&
-           !deerlapse_key_seal_append_tag(key, nonce, NULL, 0, in, len, out) &&
-           !deerlapse_key_open_appended_tag(key, nonce, NULL, 0, in, len, out) && left(tag, sizeof tag) == 0;
-}
-
-/* The calls that take secrets, and those under their keys, refuse outputs, payloads and other parts of so many bytes. */
-static bool refused_of_secrets(const deerlapse_quic_key *packets, const deerlapse_record_key *records, uint8_t *out,
-                               size_t len) {
-    uint8_t tag[DEERLAPSE_TAG_LEN] = {0}, type = 0;
-    size_t opened = 0;
-    return !deerlapse_hmac(secret, 32, nonce, 12, out, len) && !deerlapse_hkdf_extract(nonce, 12, secret, 32, out, len) &&
-           !deerlapse_hkdf_expand(secret, 32, nonce, 12, out, len) &&
-           !deerlapse_hkdf_expand(secret, len, nonce, 12, out, 32) &&
-           !deerlapse_hkdf_expand_label(secret, 32, nonce, 12, NULL, 0, out, len) &&
-           !deerlapse_hkdf_expand_label(secret, 32, nonce, len, NULL, 0, out, 32) &&
-           !deerlapse_hkdf_expand_label(secret, 32, nonce, 12, nonce, len, out, 32) &&
-           !deerlapse_quic_initial_secrets(DEERLAPSE_QUIC_V1, nonce, len, out, out + 32) &&
-           !deerlapse_quic_next_secret(DEERLAPSE_QUIC_V1, out, len) && !deerlapse_tls_next_secret(out, len) &&
-           !deerlapse_quic_key_seal(packets, 0, nonce, 12, out, len, tag) &&
-           !deerlapse_quic_key_open(packets, 0, nonce, 12, out, len, &opened) &&
-           !deerlapse_record_key_seal(records, 0, 23, out, len, 1) &&
-           !deerlapse_record_key_seal(records, 0, 23, out, 64, len) &&
-           !deerlapse_record_key_open(records, 0, out, len, &type, &opened) && opened + type + left(tag, sizeof tag) == 0;
-}
-
-/* In place and from one buffer to another, and nothing is written. */
-static bool refuses_long(void) {
-    static const volatile size_t lens[] = {SIZE_MAX, SIZE_MAX - 16, SIZE_MAX / 2 + 1, 0xffffffff1};
-    uint8_t in[64] = {0}, out[64] = {0};
+/* What the calls below are given, of which a refused call changes nothing. `in` is the ciphertext of 48 zeros and its tag, and
+ * `tag` is that tag: a call that opens them is refused only for what is above a limit. */
+typedef struct {
     deerlapse_key key;
+    deerlapse_message message;
+    deerlapse_sealer sealer;
+    deerlapse_opener opener;
     deerlapse_quic_key packets;
     deerlapse_record_key records;
-    if (!deerlapse_key_init(&key, secret, sizeof secret) ||
-        !deerlapse_quic_key_init(&packets, secret, sizeof secret, nonce) ||
-        !deerlapse_record_key_init(&records, secret, sizeof secret, nonce)) {
+    uint8_t in[64], out[64], tag[DEERLAPSE_TAG_LEN], type;
+    size_t count;
+} given;
+
+static bool give(given *g) {
+    memset(g, 0, sizeof *g);
+    return deerlapse_key_init(&g->key, secret, 32) && deerlapse_key_begin(&g->key, nonce, NULL, 0, &g->message) &&
+           deerlapse_key_seal(&g->key, nonce, nonce, 12, g->in, 48, g->tag) && memcpy(g->in + 48, g->tag, 16) &&
+           deerlapse_sealer_init(&g->sealer, secret, 32, nonce, 1, 2) &&
+           deerlapse_opener_init(&g->opener, secret, 32, nonce, 1, 2) &&
+           deerlapse_quic_key_init(&g->packets, secret, 32, nonce) &&
+           deerlapse_record_key_init(&g->records, secret, 32, nonce);
+}
+
+/* Messages and ciphertexts with a separate tag, of so many bytes. */
+static bool refuses_to_seal(given *g, size_t len) {
+    return !deerlapse_key_seal(&g->key, nonce, NULL, 0, g->out, len, g->tag) &&
+           !deerlapse_key_open_separate_tag(&g->key, nonce, NULL, 0, g->out, len, 0, g->tag) &&
+           !deerlapse_key_update(&g->key, &g->message, g->out, len) &&
+           !deerlapse_seal(secret, 32, nonce, NULL, 0, g->out, len, g->tag) &&
+           !deerlapse_sealer_seal(&g->sealer, NULL, 0, g->out, len, g->tag) &&
+           !deerlapse_quic_key_seal(&g->packets, 0, nonce, 12, g->out, len, g->tag) &&
+           !deerlapse_chacha20(secret, nonce, UINT32_MAX, g->out, len);
+}
+
+/* The same from one buffer to another, or to itself. */
+static bool refuses_between(given *g, const uint8_t *in, size_t len) {
+    return !deerlapse_key_seal_to(&g->key, nonce, NULL, 0, in, len, g->out, g->tag) &&
+           !deerlapse_key_open_to(&g->key, nonce, NULL, 0, in, len, g->out, g->tag) &&
+           !deerlapse_key_seal_append_tag(&g->key, nonce, NULL, 0, in, len, g->out);
+}
+
+static bool refuses_to_seal_between(given *g, size_t len) {
+    return refuses_between(g, g->in, len) && refuses_between(g, g->out, len) &&
+           !deerlapse_key_seal_to_sized(&g->key, nonce, nonce, 12, g->in, len, g->out, len, g->tag) &&
+           !deerlapse_key_open_to_sized(&g->key, nonce, nonce, 12, g->in, len, g->out, len, g->tag) &&
+           !deerlapse_key_seal_append_tag_sized(&g->key, nonce, nonce, 12, g->in, len, g->out, len + DEERLAPSE_TAG_LEN);
+}
+
+/* Ciphertexts with their tags, of so many bytes. */
+static bool refuses_to_open(given *g, size_t len) {
+    return !deerlapse_key_open(&g->key, nonce, NULL, 0, g->out, len, 0, &g->count) &&
+           !deerlapse_key_open_appended_tag(&g->key, nonce, NULL, 0, g->in, len, g->out) &&
+           !deerlapse_key_open_appended_tag(&g->key, nonce, NULL, 0, g->out, len, g->out) &&
+           !deerlapse_key_open_appended_tag_sized(&g->key, nonce, nonce, 12, g->in, len, g->out, len - DEERLAPSE_TAG_LEN) &&
+           !deerlapse_open(secret, 32, nonce, NULL, 0, g->out, len, 0, &g->count) &&
+           !deerlapse_opener_open(&g->opener, NULL, 0, g->out, len, 0, &g->count) &&
+           !deerlapse_opener_open_number(&g->opener, 1, NULL, 0, g->out, len, 0, &g->count) &&
+           !deerlapse_quic_key_open(&g->packets, 0, nonce, 12, g->out, len, &g->count);
+}
+
+/* Outputs of other lengths than that of the message, or of both with the tag. */
+static bool refuses_sizes(given *g, size_t len) {
+    return !deerlapse_key_seal_to_sized(&g->key, nonce, nonce, 12, g->in, 48, g->out, len, g->tag) &&
+           !deerlapse_key_open_to_sized(&g->key, nonce, nonce, 12, g->in, 48, g->out, len, g->tag) &&
+           !deerlapse_key_seal_append_tag_sized(&g->key, nonce, nonce, 12, g->in, 48, g->out, len + DEERLAPSE_TAG_LEN) &&
+           !deerlapse_key_open_appended_tag_sized(&g->key, nonce, nonce, 12, g->in, 64, g->out, len);
+}
+
+/* Offsets in 64 bytes, of which the last 16 are a tag, or in 48. */
+static bool refuses_starts(given *g, size_t start) {
+    return !deerlapse_key_open(&g->key, nonce, NULL, 0, g->out, 64, start, &g->count) &&
+           !deerlapse_key_open_separate_tag(&g->key, nonce, NULL, 0, g->out, 48, start, g->tag) &&
+           !deerlapse_open(secret, 32, nonce, NULL, 0, g->out, 64, start, &g->count) &&
+           !deerlapse_opener_open(&g->opener, NULL, 0, g->out, 64, start, &g->count) &&
+           !deerlapse_opener_open_number(&g->opener, 1, NULL, 0, g->out, 64, start, &g->count);
+}
+
+/* AADs, and headers of packets. */
+static bool refuses_to_seal_aads(given *g, size_t len) {
+    return !deerlapse_key_seal(&g->key, nonce, g->in, len, g->out, 48, g->tag) &&
+           !deerlapse_key_seal_to(&g->key, nonce, g->in, len, g->in, 48, g->out, g->tag) &&
+           !deerlapse_key_seal_append_tag(&g->key, nonce, g->in, len, g->in, 48, g->out) &&
+           !deerlapse_key_seal_to_sized(&g->key, nonce, g->in, len, g->in, 48, g->out, 48, g->tag) &&
+           !deerlapse_key_seal_append_tag_sized(&g->key, nonce, g->in, len, g->in, 48, g->out, 64) &&
+           !deerlapse_key_begin(&g->key, nonce, g->in, len, &g->message) &&
+           !deerlapse_seal(secret, 32, nonce, g->in, len, g->out, 48, g->tag) &&
+           !deerlapse_sealer_seal(&g->sealer, g->in, len, g->out, 48, g->tag) &&
+           !deerlapse_quic_key_seal(&g->packets, 0, g->in, len, g->out, 48, g->tag);
+}
+
+static bool refuses_to_open_aads(given *g, size_t len) {
+    return !deerlapse_key_open(&g->key, nonce, g->in, len, g->out, 64, 0, &g->count) &&
+           !deerlapse_key_open_separate_tag(&g->key, nonce, g->in, len, g->out, 48, 0, g->tag) &&
+           !deerlapse_key_open_to(&g->key, nonce, g->in, len, g->in, 48, g->out, g->tag) &&
+           !deerlapse_key_open_appended_tag(&g->key, nonce, g->in, len, g->in, 64, g->out) &&
+           !deerlapse_key_open_to_sized(&g->key, nonce, g->in, len, g->in, 48, g->out, 48, g->tag) &&
+           !deerlapse_key_open_appended_tag_sized(&g->key, nonce, g->in, len, g->in, 64, g->out, 48) &&
+           !deerlapse_open(secret, 32, nonce, g->in, len, g->out, 64, 0, &g->count) &&
+           !deerlapse_opener_open(&g->opener, g->in, len, g->out, 64, 0, &g->count) &&
+           !deerlapse_opener_open_number(&g->opener, 1, g->in, len, g->out, 64, 0, &g->count) &&
+           !deerlapse_quic_key_open(&g->packets, 0, g->in, len, g->out, 64, &g->count);
+}
+
+/* Keys. The first call zeroes what it is given. */
+static bool refuses_keys(given *g, size_t len) {
+    deerlapse_key key = g->key;
+    return !deerlapse_key_init(&key, secret, len) && left(&key, sizeof key) == 0 &&
+           !deerlapse_seal(secret, len, nonce, NULL, 0, g->out, 48, g->tag) &&
+           !deerlapse_open(secret, len, nonce, NULL, 0, g->out, 64, 0, &g->count) &&
+           !deerlapse_sealer_init(&g->sealer, secret, len, nonce, 1, 2) &&
+           !deerlapse_opener_init(&g->opener, secret, len, nonce, 1, 2) &&
+           !deerlapse_quic_key_init(&g->packets, secret, len, nonce) &&
+           !deerlapse_record_key_init(&g->records, secret, len, nonce) &&
+           !deerlapse_mask_aes(secret, len, g->in, g->out);
+}
+
+/* Secrets, and what has the length of a hash. */
+static bool refuses_secrets(given *g, size_t len) {
+    return !deerlapse_hmac(secret, 32, nonce, 12, g->out, len) &&
+           !deerlapse_hkdf_extract(nonce, 12, secret, 32, g->out, len) &&
+           !deerlapse_hkdf_expand(secret, len, nonce, 12, g->out, 32) &&
+           !deerlapse_hkdf_expand_label(secret, len, nonce, 12, NULL, 0, g->out, 32) &&
+           !deerlapse_quic_key_from_secret(&g->packets, DEERLAPSE_QUIC_V1, secret, len) &&
+           !deerlapse_quic_header_key_from_secret(&g->key, DEERLAPSE_QUIC_V1, secret, len) &&
+           !deerlapse_quic_next_secret(DEERLAPSE_QUIC_V1, g->out, len) &&
+           !deerlapse_record_key_from_secret(&g->records, secret, len) && !deerlapse_tls_next_secret(g->out, len);
+}
+
+/* Keying material, of 255 hashes at most. */
+static bool refuses_outputs(given *g, size_t len) {
+    return !deerlapse_hkdf_expand(secret, 32, nonce, 12, g->out, len) &&
+           !deerlapse_hkdf_expand_label(secret, 32, nonce, 12, NULL, 0, g->out, len);
+}
+
+static bool refuses_labels(given *g, size_t len) {
+    return !deerlapse_hkdf_expand_label(secret, 32, g->in, len, NULL, 0, g->out, 32);
+}
+
+static bool refuses_contexts(given *g, size_t len) {
+    return !deerlapse_hkdf_expand_label(secret, 32, nonce, 12, g->in, len, g->out, 32);
+}
+
+static bool refuses_ids(given *g, size_t len) {
+    return !deerlapse_quic_initial_secrets(DEERLAPSE_QUIC_V1, g->in, len, g->out, g->out + 32);
+}
+
+static bool refuses_to_seal_records(given *g, size_t len) {
+    return !deerlapse_record_key_seal(&g->records, 0, 23, g->out, len, 1);
+}
+
+static bool refuses_to_open_records(given *g, size_t len) {
+    return !deerlapse_record_key_open(&g->records, 0, g->out, len, &g->type, &g->count);
+}
+
+/* Contents of records whose payload has 64 bytes. */
+static bool refuses_contents(given *g, size_t len) {
+    return !deerlapse_record_key_seal(&g->records, 0, 23, g->out, 64, len);
+}
+
+/* Seals 48 zeros under the nonce of a number, with the tag after them. */
+static bool seal_number(const given *g, size_t number, uint8_t out[64]) {
+    uint8_t of_number[DEERLAPSE_NONCE_LEN];
+    deerlapse_nonce(nonce, number, of_number);
+    memset(out, 0, 48);
+    return deerlapse_key_seal(&g->key, of_number, nonce, 12, out, 48, out + 48);
+}
+
+/* Numbers of packets. */
+static bool refuses_packet_numbers(given *g, size_t number) {
+    uint8_t packet[64], before[64];
+    if (!seal_number(g, number, packet)) return false;
+    memcpy(before, packet, 64);
+    return !deerlapse_quic_key_seal(&g->packets, number, nonce, 12, g->out, 48, g->tag) &&
+           !deerlapse_quic_key_open(&g->packets, number, nonce, 12, packet, 64, &g->count) && memcmp(packet, before, 64) == 0;
+}
+
+/* A first number above the limit 2, and messages of a number that isn't below the limit. */
+static bool refuses_numbers(given *g, size_t number) {
+    deerlapse_sealer sealer;
+    deerlapse_opener opener;
+    uint8_t message[64], before[64];
+    if (!seal_number(g, number, message)) return false;
+    memcpy(before, message, 64);
+    return !deerlapse_sealer_init(&g->sealer, secret, 32, nonce, number, 2) &&
+           !deerlapse_opener_init(&g->opener, secret, 32, nonce, number, 2) &&
+           deerlapse_sealer_init(&sealer, secret, 32, nonce, number, number) &&
+           deerlapse_opener_init(&opener, secret, 32, nonce, number, number) &&
+           !deerlapse_sealer_seal(&sealer, nonce, 12, g->out, 48, g->tag) &&
+           !deerlapse_opener_open(&opener, nonce, 12, message, 64, 0, &g->count) && memcmp(message, before, 64) == 0 &&
+           deerlapse_sealer_next(&sealer) == number && deerlapse_opener_next(&opener) == number;
+}
+
+/* A record that is authentic and one byte too long. */
+static bool refuses_long_record(given *g) {
+    enum { LEN = (1 << 14) + 257 };
+    static const uint8_t header[] = {23, 3, 3, LEN >> 8, LEN & 0xff};
+    static uint8_t record[LEN], before[LEN];
+    memset(record, 23, LEN - DEERLAPSE_TAG_LEN);
+    if (!deerlapse_key_seal(&g->key, nonce, header, sizeof header, record, LEN - DEERLAPSE_TAG_LEN,
+                            record + LEN - DEERLAPSE_TAG_LEN)) {
         return false;
     }
-    for (size_t i = 0; i < sizeof lens / sizeof *lens; i++) {
-        if (!refused(&key, in, lens[i], in) || !refused(&key, in, lens[i], out) ||
-            !refused_of_secrets(&packets, &records, out, lens[i])) {
-            return false;
+    memcpy(before, record, LEN);
+    return !deerlapse_record_key_open(&g->records, 0, record, LEN, &g->type, &g->count) && memcmp(record, before, LEN) == 0;
+}
+
+/* Each call that has a limit, with what is one above it, and with lengths that no memory has. */
+static bool refuses_long(void) {
+    static const struct {
+        bool (*refuses)(given *g, size_t value);
+        size_t one_above;
+    } limits[] = {
+        {refuses_to_seal, 0xfffffffe1},  {refuses_to_seal_between, 0xfffffffe1},
+        {refuses_to_open, 0xffffffff1},  {refuses_sizes, 49},
+        {refuses_starts, 49},            {refuses_to_seal_aads, (size_t)1 << 61},
+        {refuses_keys, 33},              {refuses_to_open_aads, (size_t)1 << 61},
+        {refuses_secrets, 49},           {refuses_outputs, 255 * DEERLAPSE_SHA256_LEN + 1},
+        {refuses_labels, 250},           {refuses_contexts, 256},
+        {refuses_ids, 21},               {refuses_to_seal_records, (1 << 14) + 18},
+        {refuses_contents, 48},          {refuses_to_open_records, (1 << 14) + 257},
+        {refuses_numbers, 3},            {refuses_packet_numbers, (size_t)1 << 62},
+    };
+    given g, before;
+    if (!give(&before)) return false;
+    memcpy(&g, &before, sizeof g);
+    for (size_t i = 0; i < sizeof limits / sizeof *limits; i++) {
+        const volatile size_t lens[] = {limits[i].one_above, SIZE_MAX / 2 + 1, SIZE_MAX - 16, SIZE_MAX};
+        for (size_t j = 0; j < sizeof lens / sizeof *lens; j++) {
+            if (!limits[i].refuses(&g, lens[j]) || memcmp(&g, &before, sizeof g) != 0) return false;
         }
     }
-    return left(in, sizeof in) == 0 && left(out, sizeof out) == 0;
+    /* The stream has 2^38 bytes, and its last block 64. */
+    return !deerlapse_chacha20(secret, nonce, UINT32_MAX, g.out, 65) &&
+           !deerlapse_chacha20(secret, nonce, 0, g.out, ((size_t)1 << 38) + 1) && refuses_long_record(&g) &&
+           memcmp(&g, &before, sizeof g) == 0;
 }
 
 /* Each pointer with a length is null where the length is 0, which succeeds for inputs, and for outputs of HKDF-Expand. */
