@@ -17,7 +17,6 @@ mod loans;
 mod masks;
 mod other_cipher;
 mod quic;
-mod reference;
 mod refusals;
 mod sequences;
 mod streams;

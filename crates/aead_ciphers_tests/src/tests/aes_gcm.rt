@@ -3,8 +3,7 @@
 use crate::tests::callers::seal_where_room;
 use crate::tests::cases::false_tag;
 use crate::tests::checks::{equal, holds, same};
-use crate::tests::counting::WORK;
-use crate::tests::reference;
+use crate::tests::counting::work;
 use aead_ciphers::aes_gcm::{Key, open};
 use aead_ciphers_base::aes::{self, KeyBytes, Work};
 use aead_ciphers_base::values::{Aad, Nonce, Tag};
@@ -12,6 +11,8 @@ use aead_vectors::gcm_spec::{CASE_1, CASE_4, CASE_16, Case};
 use std::alloc::Global;
 use std::process::Abort;
 use std::test::Fail;
+use test_support::messages::{counting, lens};
+use test_support::reference;
 
 /// Expands the key of a test case.
 fn key(case: &Case) -> Result<Key, Fail> {
@@ -103,21 +104,14 @@ fn work_of_gcm_spec_cases(rt: HostRuntime) -> Result<(), Fail> {
 #[test]
 fn work_of_each_length(rt: HostRuntime) -> Result<(), Fail> {
     let mut case = Case::parse(rt.alloc(), CASE_4)?;
-    for ((len, aad_len), (blocks, products)) in WORK {
+    for len in lens(rt.alloc())? {
+        let aad_len = len % 41;
         case.message = vec![in rt.alloc(); 0; len]?;
         case.aad = vec![in rt.alloc(); 0; aad_len]?;
+        let (blocks, products) = work(len, aad_len);
         works(&rt, rt.alloc(), &case, blocks, products)?;
     }
     Ok(())
-}
-
-/// Returns `len` bytes that repeat the bytes from 0 to 250.
-fn counting(alloc: Global, len: usize) -> Result<Vec<u8>, Fail> {
-    let mut bytes = Vec::new(alloc);
-    for i in 0..len {
-        bytes.push((i % 251) as u8)?;
-    }
-    Ok(bytes)
 }
 
 /// Asserts that opening at `start` fails for a wrong tag and the buffer is unchanged. For the correct tag, asserts that the
@@ -169,10 +163,7 @@ fn every_start(rt: &impl Abort, alloc: Global, case: &Case, len: usize) -> Resul
 #[test]
 fn every_byte_at_every_start(rt: HostRuntime) -> Result<(), Fail> {
     let case = Case::parse(rt.alloc(), CASE_4)?;
-    for len in [
-        0, 1, 15, 16, 17, 31, 32, 33, 48, 49, 64, 65, 111, 112, 113, 127, 128, 129, 250, 3071,
-        3072, 3073, 3088, 3199, 3200, 3201, 6143, 6144, 6145,
-    ] {
+    for len in lens(rt.alloc())? {
         every_start(&rt, rt.alloc(), &case, len)?;
     }
     Ok(())
@@ -181,7 +172,7 @@ fn every_byte_at_every_start(rt: HostRuntime) -> Result<(), Fail> {
 #[test]
 fn every_byte_at_every_start_under_aes_256(rt: HostRuntime) -> Result<(), Fail> {
     let case = Case::parse(rt.alloc(), CASE_16)?;
-    for len in [0, 1, 15, 16, 17, 31, 32, 33, 64, 65, 112, 113, 250] {
+    for len in lens(rt.alloc())? {
         every_start(&rt, rt.alloc(), &case, len)?;
     }
     Ok(())

@@ -17,6 +17,7 @@ use std::alloc::Global;
 use std::cell::Cell;
 use std::process::Abort;
 use std::test::Fail;
+use test_support::messages::lens;
 
 /// Adds `more` to `count`.
 fn add(count: &Cell<u64>, more: usize) {
@@ -167,19 +168,16 @@ fn work_at(
     Ok(())
 }
 
-/// The lengths of a message and an AAD, and the cipher blocks and products of sealing or of opening them.
-pub(crate) const WORK: [((usize, usize), (u64, u64)); 10] = [
-    ((0, 0), (1, 1)),
-    ((1, 1), (2, 3)),
-    ((16, 0), (2, 2)),
-    ((17, 0), (3, 3)),
-    ((64, 0), (5, 5)),
-    ((111, 5), (8, 9)),
-    ((112, 0), (8, 8)),
-    ((113, 0), (9, 9)),
-    ((129, 0), (10, 10)),
-    ((3073, 20), (194, 196)),
-];
+/// Returns the cipher blocks and products of sealing or of opening n bytes with a bytes of AAD: ceil(n / 16) + 1 and
+/// ceil(a / 16) + ceil(n / 16) + 1 (SP 800-38D section 7.1).
+pub(crate) fn work(len: usize, aad_len: usize) -> (u64, u64) {
+    let blocks = len.div_ceil(16) as u64;
+    let aad_blocks = aad_len.div_ceil(16) as u64;
+    (
+        blocks.wrapping_add(1),
+        aad_blocks.wrapping_add(blocks).wrapping_add(1),
+    )
+}
 
 // The tallies of the generic bodies are what a counting cipher and a counting hash were asked for.
 #[test]
@@ -187,8 +185,10 @@ fn work_that_is_asked_for(rt: HostRuntime) -> Result<(), Fail> {
     let key = aes::Key::new(KeyBytes::AES_128(&[7; 16]))?;
     let subkey = key.encrypt_block(ZERO_BLOCK, &mut Work::new());
     let gcm_key = gcm::Key::new(gcm::KeyValue::new(subkey));
-    for (lens, tallies) in WORK {
-        work_at(&rt, rt.alloc(), &key, &gcm_key, lens, tallies)?;
+    for len in lens(rt.alloc())? {
+        let aad_len = len % 41;
+        let tallies = work(len, aad_len);
+        work_at(&rt, rt.alloc(), &key, &gcm_key, (len, aad_len), tallies)?;
     }
     Ok(())
 }

@@ -9,9 +9,10 @@ ghost use Rattle.aead_ciphers.specs.Ghash.{IsBlock, ghash, unit_block};
 
 use crate::tests::checks::{equal, holds, same};
 use aead_ciphers::aead::{AES_128_GCM, Aad, LessSafeKey, Nonce, Tag, UnboundKey, Unspecified};
+use aead_ciphers::gcm::{self, UpdateBlock, Xi};
 use aead_ciphers::laws;
 use aead_ciphers_base::aes::{self, Block, EncryptBlock, KeyBytes, Work, ZERO_BLOCK};
-use aead_vectors::gcm_spec::{CASE_4, Case};
+use aead_vectors::gcm_spec::{CASE_2_H, CASE_4, Case};
 use std::process::Abort;
 use std::test::Fail;
 
@@ -161,10 +162,38 @@ fn two_subkeys_of_two_messages()
     );
 }
 
-/// The contracts of these functions are proved.
+/// Asserts the GHASH of blocks under a hash subkey.
+fn hashes(rt: &impl Abort, subkey: Block, blocks: &[Block], wanted: Block) {
+    let key = gcm::Key::new(gcm::KeyValue::new(subkey));
+    let mut xi = Xi::zero();
+    for block in blocks {
+        key.update_block(&mut xi, *block, &mut Work::new());
+    }
+    same(rt, xi.as_ref(), &wanted, "the GHASH");
+}
+
+/// Returns a block with only its last byte other than zero.
+fn ends_in(last: u8) -> Block {
+    let mut block = ZERO_BLOCK;
+    block[15] = last;
+    block
+}
+
+// The contracts of these functions are proved. The hashes that they name are computed: under the unit block the sum of the
+// blocks, and under zero, zero.
 #[test]
-fn bounds_are_reached() {
+fn bounds_are_reached(rt: HostRuntime) {
     two_keys_of_two_blocks();
+    for subkey in [ZERO_BLOCK, UNIT_BLOCK] {
+        hashes(&rt, subkey, &[UNIT_BLOCK; 2], ZERO_BLOCK);
+        hashes(&rt, subkey, &[ZERO_BLOCK; 2], ZERO_BLOCK);
+    }
     one_key_of_one_block();
+    hashes(&rt, UNIT_BLOCK, &[UNIT_BLOCK], UNIT_BLOCK);
+    hashes(&rt, CASE_2_H, &[UNIT_BLOCK], CASE_2_H);
     two_subkeys_of_two_messages();
+    for (subkey, hash) in [(ZERO_BLOCK, ZERO_BLOCK), (UNIT_BLOCK, ends_in(0x78))] {
+        hashes(&rt, subkey, &[ZERO_BLOCK, ends_in(0x78)], hash);
+        hashes(&rt, subkey, &[ends_in(0xf8), ends_in(0x80)], hash);
+    }
 }

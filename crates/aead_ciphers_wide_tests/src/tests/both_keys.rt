@@ -1,24 +1,30 @@
-//! Tests that the `LessSafeKey` of this crate, with planes of both widths, and the one of `aead_ciphers` seal to the same bytes,
-//! and that each width opens at each start what was sealed.
+//! Tests that the `LessSafeKey` of this crate, with planes of both widths, and the one of `aead_ciphers` seal as a reference
+//! implementation does, and that each width opens at each start what was sealed.
 
 use crate::tests::cases::wider_key_of_bytes;
 use crate::tests::checks::{equal, holds, same};
+use aead_ciphers::aead::generic::LessSafeKey;
 use aead_ciphers::aead::{
-    AES_128_GCM, AES_256_GCM, Aad, Algorithm, LessSafeKey, Nonce, UnboundKey,
+    AES_128_GCM, AES_256_GCM, Aad, Algorithm, LessSafeKey as NarrowKey, Nonce, UnboundKey,
 };
+use aead_ciphers::aes_gcm::GcmKey;
+use aead_ciphers_base::aes::{self, KeyBytes};
 use aead_ciphers_wide::aead::LessSafeKey as WideKey;
 use std::alloc::Global;
 use std::ops::Range;
 use std::process::Abort;
 use std::test::Fail;
+use test_support::messages::{LONG_LENS, counting};
+use test_support::reference;
 
 /// Where the ciphertext begins in the buffers that are opened.
 const STARTS: [usize; 9] = [0, 1, 4, 15, 16, 17, 3071, 3072, 3073];
 
-/// A key by both crates, with planes of 128 and of 256 bits.
+/// A key by the reference implementation and by both crates, with planes of 128 and of 256 bits.
 #[derive(Drop)]
 struct BothKeys {
-    narrow: LessSafeKey,
+    reference: aes::Key,
+    narrow: NarrowKey,
     wide: WideKey,
     wider: WideKey,
 }
@@ -27,30 +33,24 @@ fn both_keys(algorithm: &'static Algorithm) -> Result<BothKeys, Fail> {
     let bytes = [3; 32];
     let bytes = &bytes[..algorithm.key_len().min(32)];
     Ok(BothKeys {
-        narrow: LessSafeKey::new(UnboundKey::new(algorithm, bytes)?),
+        reference: aes::Key::new(KeyBytes::from_slice(bytes)?)?,
+        narrow: NarrowKey::new(UnboundKey::new(algorithm, bytes)?),
         wide: WideKey::new(UnboundKey::new(algorithm, bytes)?),
         wider: wider_key_of_bytes(algorithm, bytes)?,
     })
 }
 
-fn nonce() -> Nonce {
-    Nonce::assume_unique_for_key([9; 12])
-}
+const NONCE: [u8; 12] = [9; 12];
 
-/// Returns `len` bytes that repeat the bytes from 0 to 250.
-fn counting(alloc: Global, len: usize) -> Result<Vec<u8>, Fail> {
-    let mut bytes = Vec::new(alloc);
-    for i in 0..len {
-        bytes.push((i % 251) as u8)?;
-    }
-    Ok(bytes)
+fn nonce() -> Nonce {
+    Nonce::assume_unique_for_key(NONCE)
 }
 
 /// Asserts that a key seals a message to these bytes and a tag.
-fn seals_to(
+fn seals_to<K: GcmKey>(
     rt: &impl Abort,
     alloc: Global,
-    key: &WideKey,
+    key: &LessSafeKey<K>,
     aad: &[u8],
     (message, wanted): (&[u8], &[u8]),
 ) -> Result<(), Fail> {
@@ -61,7 +61,7 @@ fn seals_to(
     Ok(())
 }
 
-/// Seals a message by all keys, and returns the ciphertext and the tag.
+/// Asserts that all keys seal a message as the reference implementation does, and returns the ciphertext and the tag.
 fn seal_alike(
     rt: &impl Abort,
     alloc: Global,
@@ -69,9 +69,8 @@ fn seal_alike(
     aad: &[u8],
     message: &[u8],
 ) -> Result<Vec<u8>, Fail> {
-    let mut sealed = message.to_vec(alloc)?;
-    keys.narrow
-        .seal_in_place_append_tag(nonce(), Aad::from(aad), &mut sealed)?;
+    let sealed = reference::sealed(alloc, &keys.reference, &NONCE, aad, message)?;
+    seals_to(rt, alloc, &keys.narrow, aad, (message, &sealed))?;
     seals_to(rt, alloc, &keys.wide, aad, (message, &sealed))?;
     seals_to(rt, alloc, &keys.wider, aad, (message, &sealed))?;
     Ok(sealed)
@@ -175,12 +174,12 @@ fn to_600_bytes_under_aes_256(rt: HostRuntime) -> Result<(), Fail> {
     agree(&rt, &AES_256_GCM, 451..601)
 }
 
-// Messages are encrypted in pieces of 3,072 bytes.
+// Messages are encrypted in chunks of 3,072 bytes.
 #[test]
 fn around_3072_bytes(rt: HostRuntime) -> Result<(), Fail> {
     for algorithm in [&AES_128_GCM, &AES_256_GCM] {
         let keys = both_keys(algorithm)?;
-        for len in [3071, 3072, 3073, 3088, 6143, 6144, 6145] {
+        for len in LONG_LENS {
             agree_at(&rt, rt.alloc(), &keys, len)?;
         }
     }

@@ -1,4 +1,5 @@
-//! A reference implementation of counter mode and the tag, block by block and by index as in SP 800-38D.
+//! A reference implementation of counter mode and the tag, block by block and by index as in SP 800-38D. Of the library it has the
+//! cipher of one block alone.
 
 use aead_ciphers_base::aes::{self, EncryptBlock, Work};
 use std::alloc::{AllocError, Allocator};
@@ -12,7 +13,7 @@ fn keystream_block(key: &aes::Key, nonce: &[u8; 12], k: u32) -> [u8; 16] {
 }
 
 /// Returns the ciphertext of a message: its piece j of 16 bytes XOR the encryption of counter block 2 + j.
-pub(crate) fn ciphertext<A: Allocator>(
+pub fn ciphertext<A: Allocator>(
     alloc: A,
     key: &aes::Key,
     nonce: &[u8; 12],
@@ -27,6 +28,20 @@ pub(crate) fn ciphertext<A: Allocator>(
             bytes.push(byte ^ mask)?;
         }
     }
+    Ok(bytes)
+}
+
+/// Returns the ciphertext of a message, followed by the tag.
+pub fn sealed<A: Allocator>(
+    alloc: A,
+    key: &aes::Key,
+    nonce: &[u8; 12],
+    aad: &[u8],
+    message: &[u8],
+) -> Result<Vec<u8, A>, AllocError> {
+    let mut bytes = ciphertext(alloc, key, nonce, message)?;
+    let tag = tag(key, nonce, aad, &bytes);
+    bytes.extend_from_slice(&tag)?;
     Ok(bytes)
 }
 
@@ -58,7 +73,7 @@ fn product(x: u128, y: u128) -> u128 {
 
 /// Returns the tag: the encryption of counter block 1, plus each block i of the m hashed blocks times the power m + 1 - i of
 /// the hash subkey.
-pub(crate) fn tag(key: &aes::Key, nonce: &[u8; 12], aad: &[u8], ciphertext: &[u8]) -> [u8; 16] {
+pub fn tag(key: &aes::Key, nonce: &[u8; 12], aad: &[u8], ciphertext: &[u8]) -> [u8; 16] {
     let h = u128::from_be_bytes(key.encrypt_block([0; 16], &mut Work::new()));
     let lengths = (8 * aad.len() as u128) << 64 | 8 * ciphertext.len() as u128;
     let mut power = h;
