@@ -3031,27 +3031,24 @@
 	.type	"aead_ciphers_wide::aes::expand",@function
 "aead_ciphers_wide::aes::expand":       // @"aead_ciphers_wide::aes::expand"
 // %bb.0:                               // %start
-	ands	w8, w1, #0xff
-	mov	w9, #16                         // =0x10
+	mov	w8, #16                         // =0x10
 	mov	w10, #32                        // =0x20
-	csel	x10, x10, x9, ne
-	cbnz	w8, .Ldeerlapse_BB14_2
-// %bb.1:                               // %join.5.i.preheader.i
+	tst	w1, #0xff
 	movi	v0.2d, #0000000000000000
+	csel	x10, x10, x8, ne
+	mov	x9, xzr
+	lsr	x8, x10, #4
+	mov	x11, x8
 	stp	q0, q0, [x0, #176]
 	stp	q0, q0, [x0, #208]
-.Ldeerlapse_BB14_2:                               // %"aead_ciphers_wide::aes::round_keys::clear_rows::<#7feab25f0a128cef>.exit.i"
-	lsr	x8, x10, #4
-	mov	x9, xzr
-	mov	x11, x8
-.Ldeerlapse_BB14_3:                               // %join.5.i619.i
+.Ldeerlapse_BB14_1:                               // %join.5.i617.i
                                         // =>This Inner Loop Header: Depth=1
 	ldr	q0, [x2, x9]
 	subs	x11, x11, #1
 	str	q0, [x0, x9]
 	add	x9, x9, #16
-	b.ne	.Ldeerlapse_BB14_3
-// %bb.4:                               // %join.5.lr.ph.i
+	b.ne	.Ldeerlapse_BB14_1
+// %bb.2:                               // %join.5.lr.ph.i
 	lsr	x9, x10, #2
 	add	x10, x0, x10
 	tst	w1, #0xff
@@ -3060,9 +3057,9 @@
 	cset	w11, ne
 	sub	x12, x8, #1
 	add	x13, x9, #7
-	b	.Ldeerlapse_BB14_7
-.Ldeerlapse_BB14_5:                               // %else.4.i.i
-                                        //   in Loop: Header=BB14_7 Depth=1
+	b	.Ldeerlapse_BB14_5
+.Ldeerlapse_BB14_3:                               // %else.4.i.i
+                                        //   in Loop: Header=BB14_5 Depth=1
 	movi	v2.16b, #15
 	dup	v3.4s, v0.s[3]
 	ldr	q5, [x0, :lo12:.Ldeerlapse_CPI14_0]
@@ -3090,8 +3087,8 @@
 	ldr	q3, [x15, :lo12:.Ldeerlapse_CPI14_4]
 	tbl	v3.16b, { v3.16b }, v4.16b
 	tbl	v2.16b, { v5.16b }, v2.16b
-.Ldeerlapse_BB14_6:                               // %"aead_ciphers_wide::aes::key_schedule::transformed.exit.i"
-                                        //   in Loop: Header=BB14_7 Depth=1
+.Ldeerlapse_BB14_4:                               // %"aead_ciphers_wide::aes::key_schedule::transformed.exit.i"
+                                        //   in Loop: Header=BB14_5 Depth=1
 	adrp	x14, .Ldeerlapse_CPI14_7
 	eor	v2.16b, v2.16b, v3.16b
 	movi	d3, #0000000000000000
@@ -3115,8 +3112,8 @@
 	bsl	v1.16b, v0.16b, v2.16b
 	mov	v0.16b, v2.16b
 	str	q2, [x10], #16
-	b.eq	.Ldeerlapse_BB14_9
-.Ldeerlapse_BB14_7:                               // %join.5.i
+	b.eq	.Ldeerlapse_BB14_7
+.Ldeerlapse_BB14_5:                               // %join.5.i
                                         // =>This Inner Loop Header: Depth=1
 	tst	x8, x12
 	adrp	x0, .Ldeerlapse_CPI14_0
@@ -3125,9 +3122,9 @@
 	adrp	x16, .Ldeerlapse_CPI14_3
 	adrp	x15, .Ldeerlapse_CPI14_4
 	adrp	x14, .Ldeerlapse_CPI14_5
-	b.ne	.Ldeerlapse_BB14_5
-// %bb.8:                               // %ok.6.i.i
-                                        //   in Loop: Header=BB14_7 Depth=1
+	b.ne	.Ldeerlapse_BB14_3
+// %bb.6:                               // %ok.6.i.i
+                                        //   in Loop: Header=BB14_5 Depth=1
 	adrp	x2, .Ldeerlapse_CPI14_6
 	movi	v3.16b, #15
 	ldr	q5, [x0, :lo12:.Ldeerlapse_CPI14_0]
@@ -3168,8 +3165,8 @@
 	ldr	q4, [x14, :lo12:.Ldeerlapse_CPI14_5]
 	tbl	v2.16b, { v4.16b }, v2.16b
 	eor	v3.16b, v3.16b, v6.16b
-	b	.Ldeerlapse_BB14_6
-.Ldeerlapse_BB14_9:                               // %"aead_ciphers_wide::aes::key_schedule::expand.exit"
+	b	.Ldeerlapse_BB14_4
+.Ldeerlapse_BB14_7:                               // %"aead_ciphers_wide::aes::key_schedule::expand.exit"
 	add	x0, x9, #6
 	ret
 .Ldeerlapse_func_end14:
@@ -3835,34 +3832,55 @@
 	.type	"aead_ciphers_wide::aes_gcm::ExpandedKey::expand_with_width",@function
 "aead_ciphers_wide::aes_gcm::ExpandedKey::expand_with_width": // @"aead_ciphers_wide::aes_gcm::ExpandedKey::expand_with_width"
 // %bb.0:                               // %start
-	sub	sp, sp, #128
-	str	x23, [sp, #80]                  // 8-byte Spill
-	add	x23, x0, #1928
-	stp	x20, x19, [sp, #112]            // 16-byte Folded Spill
+	sub	sp, sp, #112
+	stp	x22, x21, [sp, #80]             // 16-byte Folded Spill
+	add	x22, x0, #1928
+	mov	w21, w3
+	stp	x20, x19, [sp, #96]             // 16-byte Folded Spill
 	mov	x19, x0
 	add	x0, x0, #1928
 	stp	x29, x30, [sp, #64]             // 16-byte Folded Spill
 	add	x29, sp, #64
 	mov	x20, x4
-	stp	x22, x21, [sp, #96]             // 16-byte Folded Spill
-	mov	w22, w3
 	bl	"aead_ciphers_wide::aes::expand"
-	mov	x21, x0
-	cmp	x0, #14
-	b.eq	.Ldeerlapse_BB20_2
-// %bb.1:                               // %join.5.i.i.preheader
-	lsl	x8, x21, #7
-	mov	w9, #1792                       // =0x700
-	mov	w1, wzr
-	add	x10, x19, x8
-	sub	x2, x9, x8
-	add	x0, x10, #128
-	bl	memset
-.Ldeerlapse_BB20_2:                               // %join.7.i.preheader
-	add	x8, x21, #1
+	movi	v0.2d, #0000000000000000
+	mov	x2, x0
+	add	x8, x0, #1
 	add	x9, x19, #64
 	add	x10, x19, #1928
-.Ldeerlapse_BB20_3:                               // %join.7.i
+	str	q0, [x19, #1408]
+	str	q0, [x19, #1424]
+	str	q0, [x19, #1440]
+	str	q0, [x19, #1456]
+	str	q0, [x19, #1472]
+	str	q0, [x19, #1488]
+	str	q0, [x19, #1504]
+	str	q0, [x19, #1520]
+	str	q0, [x19, #1536]
+	str	q0, [x19, #1552]
+	str	q0, [x19, #1568]
+	str	q0, [x19, #1584]
+	str	q0, [x19, #1600]
+	str	q0, [x19, #1616]
+	str	q0, [x19, #1632]
+	str	q0, [x19, #1648]
+	str	q0, [x19, #1664]
+	str	q0, [x19, #1680]
+	str	q0, [x19, #1696]
+	str	q0, [x19, #1712]
+	str	q0, [x19, #1728]
+	str	q0, [x19, #1744]
+	str	q0, [x19, #1760]
+	str	q0, [x19, #1776]
+	str	q0, [x19, #1792]
+	str	q0, [x19, #1808]
+	str	q0, [x19, #1824]
+	str	q0, [x19, #1840]
+	str	q0, [x19, #1856]
+	str	q0, [x19, #1872]
+	str	q0, [x19, #1888]
+	str	q0, [x19, #1904]
+.Ldeerlapse_BB20_1:                               // %join.7.i
                                         // =>This Inner Loop Header: Depth=1
 	movi	v0.16b, #4
 	movi	v2.16b, #8
@@ -3887,26 +3905,25 @@
 	stp	q3, q0, [x9, #-64]
 	stp	q2, q1, [x9, #32]
 	add	x9, x9, #128
-	b.ne	.Ldeerlapse_BB20_3
-// %bb.4:                               // %"aead_ciphers_wide::aes::round_keys::write_planes.exit"
-	tst	w22, #0x1
+	b.ne	.Ldeerlapse_BB20_1
+// %bb.2:                               // %"aead_ciphers_wide::aes::round_keys::write_planes.exit"
+	tst	w21, #0x1
 	mov	w8, #128                        // =0x80
 	mov	w9, #256                        // =0x100
 	csel	w8, w9, w8, ne
-	str	w21, [x19, #1920]
+	str	w2, [x19, #1920]
 	sub	x0, x29, #16
 	str	w8, [x19, #1924]
 	add	x1, x19, #1928
 	add	x3, sp, #32
 	ldr	x8, [x20]
-	mov	x2, x21
 	stp	xzr, xzr, [sp, #32]
 	stp	xzr, xzr, [x29, #-16]
 	add	x8, x8, #1
 	str	x8, [x20]
 	bl	"aead_ciphers_wide::aes::block_key::BlockKeyRef::encrypt_one"
 	ldur	q0, [x29, #-16]
-	add	x0, x23, #240
+	add	x0, x22, #240
 	dup	v1.2d, v0.d[1]
 	mov	x8, v0.d[1]
 	fmov	x9, d0
@@ -3926,7 +3943,7 @@
 	ldp	q17, q16, [sp]                  // 32-byte Folded Reload
 	ldr	q2, [x8, :lo12:.Ldeerlapse_CPI20_2]
 	ldr	q3, [x9, :lo12:.Ldeerlapse_CPI20_3]
-	ldp	x20, x19, [sp, #112]            // 16-byte Folded Reload
+	ldp	x20, x19, [sp, #96]             // 16-byte Folded Reload
 	ushl	v4.2d, v17.2d, v0.2d
 	ushl	v5.2d, v17.2d, v1.2d
 	ushl	v6.2d, v17.2d, v2.2d
@@ -3935,21 +3952,20 @@
 	ushl	v3.2d, v17.2d, v3.2d
 	ushl	v0.2d, v16.2d, v0.2d
 	ushl	v1.2d, v16.2d, v1.2d
-	ldp	x22, x21, [sp, #96]             // 16-byte Folded Reload
+	ldp	x29, x30, [sp, #64]             // 16-byte Folded Reload
 	uzp1	v2.4s, v7.4s, v2.4s
-	ldp	q16, q7, [x23, #432]
+	ldp	q16, q7, [x22, #432]
 	uzp1	v0.4s, v1.4s, v0.4s
 	uzp1	v1.4s, v3.4s, v6.4s
 	uzp1	v3.4s, v5.4s, v4.4s
-	ldp	x29, x30, [sp, #64]             // 16-byte Folded Reload
 	uzp1	v0.8h, v0.8h, v2.8h
 	uzp1	v1.8h, v3.8h, v1.8h
 	movi	v2.16b, #15
-	ldp	q4, q3, [x23, #464]
+	ldp	q4, q3, [x22, #464]
 	uzp1	v0.16b, v1.16b, v0.16b
 	ushr	v1.16b, v0.16b, #4
 	and	v0.16b, v0.16b, v2.16b
-	ldp	q5, q2, [x23, #720]
+	ldp	q5, q2, [x22, #720]
 	tbl	v3.16b, { v3.16b }, v1.16b
 	tbl	v4.16b, { v4.16b }, v1.16b
 	tbl	v7.16b, { v7.16b }, v1.16b
@@ -3958,7 +3974,7 @@
 	tbl	v5.16b, { v5.16b }, v0.16b
 	eor	v3.16b, v6.16b, v3.16b
 	eor	v4.16b, v4.16b, v5.16b
-	ldp	q17, q5, [x23, #688]
+	ldp	q17, q5, [x22, #688]
 	ext	v6.16b, v2.16b, v3.16b, #15
 	ext	v3.16b, v3.16b, v2.16b, #15
 	tbl	v5.16b, { v5.16b }, v0.16b
@@ -3966,11 +3982,11 @@
 	eor	v5.16b, v7.16b, v5.16b
 	tbl	v7.16b, { v16.16b }, v1.16b
 	tbl	v16.16b, { v17.16b }, v0.16b
-	ldp	q18, q17, [x23, #400]
+	ldp	q18, q17, [x22, #400]
 	ext	v6.16b, v2.16b, v4.16b, #15
 	ext	v3.16b, v4.16b, v3.16b, #15
 	eor	v7.16b, v7.16b, v16.16b
-	ldp	q19, q16, [x23, #656]
+	ldp	q19, q16, [x22, #656]
 	tbl	v17.16b, { v17.16b }, v1.16b
 	eor	v5.16b, v5.16b, v6.16b
 	tbl	v16.16b, { v16.16b }, v0.16b
@@ -3979,10 +3995,10 @@
 	eor	v16.16b, v17.16b, v16.16b
 	tbl	v17.16b, { v18.16b }, v1.16b
 	tbl	v18.16b, { v19.16b }, v0.16b
-	ldp	q20, q19, [x23, #368]
+	ldp	q20, q19, [x22, #368]
 	eor	v7.16b, v7.16b, v6.16b
 	eor	v17.16b, v17.16b, v18.16b
-	ldp	q21, q18, [x23, #624]
+	ldp	q21, q18, [x22, #624]
 	ext	v6.16b, v2.16b, v7.16b, #15
 	tbl	v19.16b, { v19.16b }, v1.16b
 	ext	v3.16b, v7.16b, v3.16b, #15
@@ -3992,7 +4008,7 @@
 	tbl	v19.16b, { v20.16b }, v1.16b
 	tbl	v20.16b, { v21.16b }, v0.16b
 	ext	v16.16b, v2.16b, v6.16b, #15
-	ldp	q22, q21, [x23, #336]
+	ldp	q22, q21, [x22, #336]
 	ext	v3.16b, v6.16b, v3.16b, #15
 	eor	v19.16b, v19.16b, v20.16b
 	tbl	v21.16b, { v21.16b }, v1.16b
@@ -4004,16 +4020,16 @@
 	ext	v18.16b, v2.16b, v17.16b, #15
 	ext	v3.16b, v17.16b, v3.16b, #15
 	eor	v18.16b, v19.16b, v18.16b
-	ldp	q19, q20, [x23, #592]
+	ldp	q19, q20, [x22, #592]
 	tbl	v20.16b, { v20.16b }, v0.16b
 	ext	v4.16b, v2.16b, v18.16b, #15
 	tbl	v19.16b, { v19.16b }, v0.16b
 	ext	v3.16b, v18.16b, v3.16b, #15
 	eor	v20.16b, v21.16b, v20.16b
 	eor	v5.16b, v5.16b, v19.16b
-	ldp	q6, q19, [x23, #560]
+	ldp	q6, q19, [x22, #560]
 	eor	v4.16b, v20.16b, v4.16b
-	ldp	q21, q20, [x23, #304]
+	ldp	q21, q20, [x22, #304]
 	tbl	v19.16b, { v19.16b }, v0.16b
 	tbl	v6.16b, { v6.16b }, v0.16b
 	ext	v7.16b, v2.16b, v4.16b, #15
@@ -4026,28 +4042,28 @@
 	ext	v7.16b, v2.16b, v5.16b, #15
 	ext	v3.16b, v5.16b, v3.16b, #15
 	eor	v7.16b, v19.16b, v7.16b
-	ldp	q19, q18, [x23, #272]
+	ldp	q19, q18, [x22, #272]
 	ext	v17.16b, v2.16b, v7.16b, #15
 	tbl	v18.16b, { v18.16b }, v1.16b
 	tbl	v5.16b, { v19.16b }, v1.16b
 	ext	v3.16b, v7.16b, v3.16b, #15
 	eor	v6.16b, v6.16b, v17.16b
-	ldp	q17, q16, [x23, #528]
+	ldp	q17, q16, [x22, #528]
 	tbl	v16.16b, { v16.16b }, v0.16b
 	ext	v4.16b, v2.16b, v6.16b, #15
 	tbl	v17.16b, { v17.16b }, v0.16b
 	ext	v3.16b, v6.16b, v3.16b, #15
 	eor	v16.16b, v18.16b, v16.16b
 	eor	v5.16b, v5.16b, v17.16b
-	ldp	q17, q6, [x23, #240]
+	ldp	q17, q6, [x22, #240]
 	eor	v4.16b, v16.16b, v4.16b
 	tbl	v6.16b, { v6.16b }, v1.16b
 	tbl	v1.16b, { v17.16b }, v1.16b
 	ext	v7.16b, v2.16b, v4.16b, #15
 	ext	v3.16b, v4.16b, v3.16b, #15
 	eor	v5.16b, v5.16b, v7.16b
-	ldp	q7, q16, [x23, #496]
-	ldr	x23, [sp, #80]                  // 8-byte Reload
+	ldp	q7, q16, [x22, #496]
+	ldp	x22, x21, [sp, #80]             // 16-byte Folded Reload
 	tbl	v16.16b, { v16.16b }, v0.16b
 	ext	v4.16b, v2.16b, v5.16b, #15
 	ext	v3.16b, v5.16b, v3.16b, #15
@@ -4073,7 +4089,7 @@
 	fmov	x9, d0
 	rev	x3, x9
 	rev	x2, x8
-	add	sp, sp, #128
+	add	sp, sp, #112
 	b	"aead_ciphers_wide::gcm::product::write_products"
 .Ldeerlapse_func_end20:
 	.size	"aead_ciphers_wide::aes_gcm::ExpandedKey::expand_with_width", .Ldeerlapse_func_end20-"aead_ciphers_wide::aes_gcm::ExpandedKey::expand_with_width"

@@ -4345,28 +4345,24 @@ Ldeerlapse_CPI14_9:
 	setne	%al
 	shll	$4, %eax
 	addq	$16, %rax
-	testb	%sil, %sil
-	jne	Ldeerlapse_BB14_2
-## %bb.1:                               ## %join.5.i.preheader.i
 	xorps	%xmm0, %xmm0
 	movups	%xmm0, 224(%rdi)
 	movups	%xmm0, 208(%rdi)
 	movups	%xmm0, 192(%rdi)
 	movups	%xmm0, 176(%rdi)
-Ldeerlapse_BB14_2:                                ## %"aead_ciphers_wide::aes::round_keys::clear_rows::<#7feab25f0a128cef>.exit.i"
 	movl	%eax, %r8d
 	shrl	$4, %r8d
 	xorl	%ecx, %ecx
 	movq	%r8, %r9
 	.p2align	4
-Ldeerlapse_BB14_3:                                ## %join.5.i619.i.epil
+Ldeerlapse_BB14_1:                                ## %join.5.i617.i.epil
                                         ## =>This Inner Loop Header: Depth=1
 	movups	(%rdx,%rcx), %xmm0
 	movups	%xmm0, (%rdi,%rcx)
 	addq	$16, %rcx
 	decq	%r9
-	jne	Ldeerlapse_BB14_3
-## %bb.4:                               ## %join.5.lr.ph.i
+	jne	Ldeerlapse_BB14_1
+## %bb.2:                               ## %join.5.lr.ph.i
 	xorl	%ecx, %ecx
 	testb	%sil, %sil
 	setne	%cl
@@ -4378,22 +4374,22 @@ Ldeerlapse_BB14_3:                                ## %join.5.i619.i.epil
 	leaq	6(%rdx), %rax
 	leaq	-1(%r8), %rdi
 	addq	$7, %rdx
-	jmp	Ldeerlapse_BB14_5
+	jmp	Ldeerlapse_BB14_3
 	.p2align	4
-Ldeerlapse_BB14_10:                               ## %"aead_ciphers_wide::aes::key_schedule::transformed.exit.i"
-                                        ##   in Loop: Header=BB14_5 Depth=1
+Ldeerlapse_BB14_8:                                ## %"aead_ciphers_wide::aes::key_schedule::transformed.exit.i"
+                                        ##   in Loop: Header=BB14_3 Depth=1
 	incq	%r8
 	addq	$16, %r9
 	movdqa	%xmm0, %xmm1
 	movdqa	%xmm3, %xmm0
 	cmpq	%r8, %rdx
-	je	Ldeerlapse_BB14_11
-Ldeerlapse_BB14_5:                                ## %join.5.i
+	je	Ldeerlapse_BB14_9
+Ldeerlapse_BB14_3:                                ## %join.5.i
                                         ## =>This Inner Loop Header: Depth=1
 	testq	%rdi, %r8
-	je	Ldeerlapse_BB14_6
-## %bb.7:                               ## %else.4.i.i
-                                        ##   in Loop: Header=BB14_5 Depth=1
+	je	Ldeerlapse_BB14_4
+## %bb.5:                               ## %else.4.i.i
+                                        ##   in Loop: Header=BB14_3 Depth=1
 	pshufd	$255, %xmm0, %xmm2              ## xmm2 = xmm0[3,3,3,3]
 	movdqa	Ldeerlapse_CPI14_0(%rip), %xmm3           ## xmm3 = [15,15,15,15,15,15,15,15,15,15,15,15,15,15,15,15]
 	movdqa	%xmm2, %xmm4
@@ -4430,10 +4426,10 @@ Ldeerlapse_BB14_5:                                ## %join.5.i
 	movdqa	Ldeerlapse_CPI14_6(%rip), %xmm2           ## xmm2 = [0,129,153,118,10,253,239,124,100,24,18,147,229,247,139,110]
 	pshufb	%xmm6, %xmm2
 	pxor	%xmm3, %xmm2
-	jmp	Ldeerlapse_BB14_8
+	jmp	Ldeerlapse_BB14_6
 	.p2align	4
-Ldeerlapse_BB14_6:                                ## %ok.6.i.i
-                                        ##   in Loop: Header=BB14_5 Depth=1
+Ldeerlapse_BB14_4:                                ## %ok.6.i.i
+                                        ##   in Loop: Header=BB14_3 Depth=1
 	movq	%r8, %r10
 	shrq	%cl, %r10
 	movdqa	%xmm0, %xmm2
@@ -4478,8 +4474,8 @@ Ldeerlapse_BB14_6:                                ## %ok.6.i.i
 	pshufb	Ldeerlapse_CPI14_8(%rip), %xmm2           ## xmm2 = xmm2[0],zero,zero,zero,xmm2[0],zero,zero,zero,xmm2[0],zero,zero,zero,xmm2[0],zero,zero,zero
 	pxor	%xmm3, %xmm2
 	pxor	%xmm4, %xmm2
-Ldeerlapse_BB14_8:                                ## %"aead_ciphers_wide::aes::key_schedule::transformed.exit.i"
-                                        ##   in Loop: Header=BB14_5 Depth=1
+Ldeerlapse_BB14_6:                                ## %"aead_ciphers_wide::aes::key_schedule::transformed.exit.i"
+                                        ##   in Loop: Header=BB14_3 Depth=1
 	movdqa	%xmm1, %xmm4
 	pslldq	$4, %xmm4                       ## xmm4 = zero,zero,zero,zero,xmm4[0,1,2,3,4,5,6,7,8,9,10,11]
 	pxor	%xmm1, %xmm4
@@ -4490,12 +4486,12 @@ Ldeerlapse_BB14_8:                                ## %"aead_ciphers_wide::aes::k
 	pxor	Ldeerlapse_CPI14_9(%rip), %xmm3
 	movdqu	%xmm3, (%r9)
 	testb	%sil, %sil
-	jne	Ldeerlapse_BB14_10
-## %bb.9:                               ## %"aead_ciphers_wide::aes::key_schedule::transformed.exit.i"
-                                        ##   in Loop: Header=BB14_5 Depth=1
+	jne	Ldeerlapse_BB14_8
+## %bb.7:                               ## %"aead_ciphers_wide::aes::key_schedule::transformed.exit.i"
+                                        ##   in Loop: Header=BB14_3 Depth=1
 	movdqa	%xmm3, %xmm0
-	jmp	Ldeerlapse_BB14_10
-Ldeerlapse_BB14_11:                               ## %"aead_ciphers_wide::aes::key_schedule::expand.exit"
+	jmp	Ldeerlapse_BB14_8
+Ldeerlapse_BB14_9:                                ## %"aead_ciphers_wide::aes::key_schedule::expand.exit"
 	retq
                                         ## -- End function
 	.section	__TEXT,__literal16,16byte_literals
@@ -5289,23 +5285,15 @@ Ldeerlapse_CPI20_8:
 	movq	%r14, %rdi
 	callq	"_aead_ciphers_wide::aes::expand"
 	movq	%rax, %r12
-	cmpq	$14, %rax
-	je	Ldeerlapse_BB20_2
-## %bb.1:                               ## %join.5.i.i.preheader
-	movq	%r12, %rax
-	shlq	$7, %rax
-	leaq	(%rbx,%rax), %rdi
-	addq	$128, %rdi
-	movl	$1792, %esi                     ## imm = 0x700
-	subq	%rax, %rsi
+	leaq	1408(%rbx), %rdi
+	movl	$512, %esi                      ## imm = 0x200
 	callq	___bzero
-Ldeerlapse_BB20_2:                                ## %join.7.i.preheader
 	movq	%r12, %rax
 	shlq	$4, %rax
 	addq	$16, %rax
 	xorl	%ecx, %ecx
 	.p2align	4
-Ldeerlapse_BB20_3:                                ## %join.7.i
+Ldeerlapse_BB20_1:                                ## %join.7.i
                                         ## =>This Inner Loop Header: Depth=1
 	movdqu	1928(%rbx,%rcx), %xmm1
 	movdqa	Ldeerlapse_CPI20_0(%rip), %xmm3           ## xmm3 = [1,1,1,1,1,1,1,1,1,1,1,1,1,1,1,1]
@@ -5353,8 +5341,8 @@ Ldeerlapse_BB20_3:                                ## %join.7.i
 	movdqu	%xmm7, 112(%rbx,%rcx,8)
 	addq	$16, %rcx
 	cmpq	%rcx, %rax
-	jne	Ldeerlapse_BB20_3
-## %bb.4:                               ## %"aead_ciphers_wide::aes::round_keys::write_planes.exit"
+	jne	Ldeerlapse_BB20_1
+## %bb.2:                               ## %"aead_ciphers_wide::aes::round_keys::write_planes.exit"
 	movl	%r12d, 1920(%rbx)
 	movl	$128, 1924(%rbx)
 	movaps	%xmm0, 32(%rsp)

@@ -4286,28 +4286,24 @@
 	setne	%r11b
 	shll	$4, %r11d
 	addq	$16, %r11
-	testb	%dl, %dl
-	jne	.Ldeerlapse_BB14_2
-# %bb.1:                                # %join.5.i.preheader.i
 	xorps	%xmm0, %xmm0
-	movups	%xmm0, 224(%rax)
-	movups	%xmm0, 208(%rax)
-	movups	%xmm0, 192(%rax)
-	movups	%xmm0, 176(%rax)
-.Ldeerlapse_BB14_2:                               # %"aead_ciphers_wide::aes::round_keys::clear_rows::<#7feab25f0a128cef>.exit.i"
+	movups	%xmm0, 224(%rcx)
+	movups	%xmm0, 208(%rcx)
+	movups	%xmm0, 192(%rcx)
+	movups	%xmm0, 176(%rcx)
 	movl	%r11d, %r9d
 	shrl	$4, %r9d
 	xorl	%ecx, %ecx
 	movq	%r9, %r10
 	.p2align	4
-.Ldeerlapse_BB14_3:                               # %join.5.i619.i.epil
+.Ldeerlapse_BB14_1:                               # %join.5.i617.i.epil
                                         # =>This Inner Loop Header: Depth=1
 	movups	(%r8,%rcx), %xmm0
 	movups	%xmm0, (%rax,%rcx)
 	addq	$16, %rcx
 	decq	%r10
-	jne	.Ldeerlapse_BB14_3
-# %bb.4:                                # %join.5.lr.ph.i
+	jne	.Ldeerlapse_BB14_1
+# %bb.2:                                # %join.5.lr.ph.i
 	xorl	%ecx, %ecx
 	testb	%dl, %dl
 	setne	%cl
@@ -4319,22 +4315,22 @@
 	leaq	6(%r8), %rax
 	leaq	-1(%r9), %r11
 	addq	$7, %r8
-	jmp	.Ldeerlapse_BB14_5
+	jmp	.Ldeerlapse_BB14_3
 	.p2align	4
-.Ldeerlapse_BB14_10:                              # %"aead_ciphers_wide::aes::key_schedule::transformed.exit.i"
-                                        #   in Loop: Header=BB14_5 Depth=1
+.Ldeerlapse_BB14_8:                               # %"aead_ciphers_wide::aes::key_schedule::transformed.exit.i"
+                                        #   in Loop: Header=BB14_3 Depth=1
 	incq	%r9
 	addq	$16, %r10
 	movdqa	%xmm0, %xmm1
 	movdqa	%xmm3, %xmm0
 	cmpq	%r9, %r8
-	je	.Ldeerlapse_BB14_11
-.Ldeerlapse_BB14_5:                               # %join.5.i
+	je	.Ldeerlapse_BB14_9
+.Ldeerlapse_BB14_3:                               # %join.5.i
                                         # =>This Inner Loop Header: Depth=1
 	testq	%r11, %r9
-	je	.Ldeerlapse_BB14_6
-# %bb.7:                                # %else.4.i.i
-                                        #   in Loop: Header=BB14_5 Depth=1
+	je	.Ldeerlapse_BB14_4
+# %bb.5:                                # %else.4.i.i
+                                        #   in Loop: Header=BB14_3 Depth=1
 	pshufd	$255, %xmm0, %xmm2              # xmm2 = xmm0[3,3,3,3]
 	movdqa	.Ldeerlapse_CPI14_0(%rip), %xmm3          # xmm3 = [15,15,15,15,15,15,15,15,15,15,15,15,15,15,15,15]
 	movdqa	%xmm2, %xmm4
@@ -4371,10 +4367,10 @@
 	movdqa	.Ldeerlapse_CPI14_6(%rip), %xmm2          # xmm2 = [0,129,153,118,10,253,239,124,100,24,18,147,229,247,139,110]
 	pshufb	%xmm6, %xmm2
 	pxor	%xmm3, %xmm2
-	jmp	.Ldeerlapse_BB14_8
+	jmp	.Ldeerlapse_BB14_6
 	.p2align	4
-.Ldeerlapse_BB14_6:                               # %ok.6.i.i
-                                        #   in Loop: Header=BB14_5 Depth=1
+.Ldeerlapse_BB14_4:                               # %ok.6.i.i
+                                        #   in Loop: Header=BB14_3 Depth=1
 	movq	%r9, %rsi
 	shrq	%cl, %rsi
 	movdqa	%xmm0, %xmm2
@@ -4419,8 +4415,8 @@
 	pshufb	.Ldeerlapse_CPI14_8(%rip), %xmm2          # xmm2 = xmm2[0],zero,zero,zero,xmm2[0],zero,zero,zero,xmm2[0],zero,zero,zero,xmm2[0],zero,zero,zero
 	pxor	%xmm3, %xmm2
 	pxor	%xmm4, %xmm2
-.Ldeerlapse_BB14_8:                               # %"aead_ciphers_wide::aes::key_schedule::transformed.exit.i"
-                                        #   in Loop: Header=BB14_5 Depth=1
+.Ldeerlapse_BB14_6:                               # %"aead_ciphers_wide::aes::key_schedule::transformed.exit.i"
+                                        #   in Loop: Header=BB14_3 Depth=1
 	movdqa	%xmm1, %xmm4
 	pslldq	$4, %xmm4                       # xmm4 = zero,zero,zero,zero,xmm4[0,1,2,3,4,5,6,7,8,9,10,11]
 	pxor	%xmm1, %xmm4
@@ -4431,12 +4427,12 @@
 	pxor	.Ldeerlapse_CPI14_9(%rip), %xmm3
 	movdqu	%xmm3, (%r10)
 	testb	%dl, %dl
-	jne	.Ldeerlapse_BB14_10
-# %bb.9:                                # %"aead_ciphers_wide::aes::key_schedule::transformed.exit.i"
-                                        #   in Loop: Header=BB14_5 Depth=1
+	jne	.Ldeerlapse_BB14_8
+# %bb.7:                                # %"aead_ciphers_wide::aes::key_schedule::transformed.exit.i"
+                                        #   in Loop: Header=BB14_3 Depth=1
 	movdqa	%xmm3, %xmm0
-	jmp	.Ldeerlapse_BB14_10
-.Ldeerlapse_BB14_11:                              # %"aead_ciphers_wide::aes::key_schedule::expand.exit"
+	jmp	.Ldeerlapse_BB14_8
+.Ldeerlapse_BB14_9:                               # %"aead_ciphers_wide::aes::key_schedule::expand.exit"
 	movaps	(%rsp), %xmm6                   # 16-byte Reload
 	movaps	16(%rsp), %xmm7                 # 16-byte Reload
 	addq	$40, %rsp
@@ -5202,11 +5198,12 @@
 	.p2align	4
 "aead_ciphers_wide::aes_gcm::ExpandedKey::expand_with_width": # @"aead_ciphers_wide::aes_gcm::ExpandedKey::expand_with_width"
 # %bb.0:                                # %start
+	pushq	%r15
 	pushq	%r14
 	pushq	%rsi
 	pushq	%rdi
 	pushq	%rbx
-	subq	$136, %rsp
+	subq	$128, %rsp
 	movdqa	%xmm9, 112(%rsp)                # 16-byte Spill
 	movdqa	%xmm8, 96(%rsp)                 # 16-byte Spill
 	movdqa	%xmm7, 80(%rsp)                 # 16-byte Spill
@@ -5217,26 +5214,18 @@
 	movq	%rdi, %rcx
 	callq	"aead_ciphers_wide::aes::expand"
 	movq	%rax, %r14
-	cmpq	$14, %rax
-	je	.Ldeerlapse_BB20_2
-# %bb.1:                                # %join.5.i.i.preheader
-	movq	%r14, %rax
-	shlq	$7, %rax
-	leaq	(%rsi,%rax), %rcx
-	addq	$128, %rcx
-	movl	$1792, %r8d                     # imm = 0x700
-	subq	%rax, %r8
+	leaq	1408(%rsi), %rcx
+	xorl	%r15d, %r15d
+	movl	$512, %r8d                      # imm = 0x200
 	xorl	%edx, %edx
 	callq	memset
-.Ldeerlapse_BB20_2:                               # %join.7.i.preheader
 	movq	%r14, %rax
 	shlq	$4, %rax
 	addq	$16, %rax
-	xorl	%ecx, %ecx
 	.p2align	4
-.Ldeerlapse_BB20_3:                               # %join.7.i
+.Ldeerlapse_BB20_1:                               # %join.7.i
                                         # =>This Inner Loop Header: Depth=1
-	movdqu	1928(%rsi,%rcx), %xmm1
+	movdqu	1928(%rsi,%r15), %xmm1
 	movdqa	.Ldeerlapse_CPI20_0(%rip), %xmm3          # xmm3 = [1,1,1,1,1,1,1,1,1,1,1,1,1,1,1,1]
 	pand	%xmm1, %xmm3
 	xorps	%xmm0, %xmm0
@@ -5272,18 +5261,18 @@
 	paddb	%xmm1, %xmm1
 	pxor	%xmm9, %xmm9
 	pcmpgtb	%xmm1, %xmm9
-	movdqu	%xmm2, (%rsi,%rcx,8)
-	movdqu	%xmm3, 16(%rsi,%rcx,8)
-	movdqu	%xmm4, 32(%rsi,%rcx,8)
-	movdqu	%xmm6, 48(%rsi,%rcx,8)
-	movdqu	%xmm5, 64(%rsi,%rcx,8)
-	movdqu	%xmm8, 80(%rsi,%rcx,8)
-	movdqu	%xmm9, 96(%rsi,%rcx,8)
-	movdqu	%xmm7, 112(%rsi,%rcx,8)
-	addq	$16, %rcx
-	cmpq	%rcx, %rax
-	jne	.Ldeerlapse_BB20_3
-# %bb.4:                                # %"aead_ciphers_wide::aes::round_keys::write_planes.exit"
+	movdqu	%xmm2, (%rsi,%r15,8)
+	movdqu	%xmm3, 16(%rsi,%r15,8)
+	movdqu	%xmm4, 32(%rsi,%r15,8)
+	movdqu	%xmm6, 48(%rsi,%r15,8)
+	movdqu	%xmm5, 64(%rsi,%r15,8)
+	movdqu	%xmm8, 80(%rsi,%r15,8)
+	movdqu	%xmm9, 96(%rsi,%r15,8)
+	movdqu	%xmm7, 112(%rsi,%r15,8)
+	addq	$16, %r15
+	cmpq	%r15, %rax
+	jne	.Ldeerlapse_BB20_1
+# %bb.2:                                # %"aead_ciphers_wide::aes::round_keys::write_planes.exit"
 	movl	%r14d, 1920(%rsi)
 	movl	$128, 1924(%rsi)
 	movaps	%xmm0, 48(%rsp)
@@ -5463,11 +5452,12 @@
 	movaps	80(%rsp), %xmm7                 # 16-byte Reload
 	movaps	96(%rsp), %xmm8                 # 16-byte Reload
 	movaps	112(%rsp), %xmm9                # 16-byte Reload
-	addq	$136, %rsp
+	addq	$128, %rsp
 	popq	%rbx
 	popq	%rdi
 	popq	%rsi
 	popq	%r14
+	popq	%r15
 	jmp	"aead_ciphers_wide::gcm::product::write_products" # TAILCALL
                                         # -- End function
 	.def	"aead_ciphers_wide::gcm::product::write_products";

@@ -3240,27 +3240,24 @@ ldeerlapse_0_1_0_CPI14_8:
 	.p2align	2
 "_deerlapse_0_1_0::aead_ciphers_wide::aes::expand":      ; @"aead_ciphers_wide::aes::expand"
 ; %bb.0:                                ; %start
-	ands	w8, w1, #0xff
-	mov	w9, #16                         ; =0x10
+	mov	w8, #16                         ; =0x10
 	mov	w10, #32                        ; =0x20
-	csel	x10, x10, x9, ne
-	cbnz	w8, Ldeerlapse_0_1_0_BB14_2
-; %bb.1:                                ; %join.5.i.preheader.i
+	tst	w1, #0xff
 	movi.2d	v0, #0000000000000000
+	csel	x10, x10, x8, ne
+	mov	x9, xzr
+	lsr	x8, x10, #4
+	mov	x11, x8
 	stp	q0, q0, [x0, #176]
 	stp	q0, q0, [x0, #208]
-Ldeerlapse_0_1_0_BB14_2:                                ; %"aead_ciphers_wide::aes::round_keys::clear_rows::<#7feab25f0a128cef>.exit.i"
-	lsr	x8, x10, #4
-	mov	x9, xzr
-	mov	x11, x8
-Ldeerlapse_0_1_0_BB14_3:                                ; %join.5.i619.i
+Ldeerlapse_0_1_0_BB14_1:                                ; %join.5.i617.i
                                         ; =>This Inner Loop Header: Depth=1
 	ldr	q0, [x2, x9]
 	subs	x11, x11, #1
 	str	q0, [x0, x9]
 	add	x9, x9, #16
-	b.ne	Ldeerlapse_0_1_0_BB14_3
-; %bb.4:                                ; %join.5.lr.ph.i
+	b.ne	Ldeerlapse_0_1_0_BB14_1
+; %bb.2:                                ; %join.5.lr.ph.i
 	lsr	x9, x10, #2
 	add	x10, x0, x10
 	tst	w1, #0xff
@@ -3269,9 +3266,9 @@ Ldeerlapse_0_1_0_BB14_3:                                ; %join.5.i619.i
 	cset	w11, ne
 	sub	x12, x8, #1
 	add	x13, x9, #7
-	b	Ldeerlapse_0_1_0_BB14_7
-Ldeerlapse_0_1_0_BB14_5:                                ; %else.4.i.i
-                                        ;   in Loop: Header=BB14_7 Depth=1
+	b	Ldeerlapse_0_1_0_BB14_5
+Ldeerlapse_0_1_0_BB14_3:                                ; %else.4.i.i
+                                        ;   in Loop: Header=BB14_5 Depth=1
 	movi.16b	v2, #15
 	dup.4s	v3, v0[3]
 	ldr	q5, [x2, ldeerlapse_0_1_0_CPI14_0@PAGEOFF]
@@ -3299,8 +3296,8 @@ Ldeerlapse_0_1_0_BB14_5:                                ; %else.4.i.i
 	ldr	q3, [x15, ldeerlapse_0_1_0_CPI14_4@PAGEOFF]
 	tbl.16b	v3, { v3 }, v4
 	tbl.16b	v2, { v5 }, v2
-Ldeerlapse_0_1_0_BB14_6:                                ; %"aead_ciphers_wide::aes::key_schedule::transformed.exit.i"
-                                        ;   in Loop: Header=BB14_7 Depth=1
+Ldeerlapse_0_1_0_BB14_4:                                ; %"aead_ciphers_wide::aes::key_schedule::transformed.exit.i"
+                                        ;   in Loop: Header=BB14_5 Depth=1
 Ldeerlapse_0_1_0_loh32:
 	adrp	x14, ldeerlapse_0_1_0_CPI14_7@PAGE
 	eor.16b	v2, v2, v3
@@ -3328,8 +3325,8 @@ Ldeerlapse_0_1_0_loh35:
 	bsl.16b	v1, v0, v2
 	mov.16b	v0, v2
 	str	q2, [x10], #16
-	b.eq	Ldeerlapse_0_1_0_BB14_9
-Ldeerlapse_0_1_0_BB14_7:                                ; %join.5.i
+	b.eq	Ldeerlapse_0_1_0_BB14_7
+Ldeerlapse_0_1_0_BB14_5:                                ; %join.5.i
                                         ; =>This Inner Loop Header: Depth=1
 	tst	x8, x12
 	adrp	x2, ldeerlapse_0_1_0_CPI14_0@PAGE
@@ -3338,9 +3335,9 @@ Ldeerlapse_0_1_0_BB14_7:                                ; %join.5.i
 	adrp	x16, ldeerlapse_0_1_0_CPI14_3@PAGE
 	adrp	x15, ldeerlapse_0_1_0_CPI14_4@PAGE
 	adrp	x14, ldeerlapse_0_1_0_CPI14_5@PAGE
-	b.ne	Ldeerlapse_0_1_0_BB14_5
-; %bb.8:                                ; %ok.6.i.i
-                                        ;   in Loop: Header=BB14_7 Depth=1
+	b.ne	Ldeerlapse_0_1_0_BB14_3
+; %bb.6:                                ; %ok.6.i.i
+                                        ;   in Loop: Header=BB14_5 Depth=1
 Ldeerlapse_0_1_0_loh36:
 	adrp	x3, ldeerlapse_0_1_0_CPI14_6@PAGE
 	movi.16b	v3, #15
@@ -3385,8 +3382,8 @@ Ldeerlapse_0_1_0_loh39:
 	ldr	q4, [x14, ldeerlapse_0_1_0_CPI14_5@PAGEOFF]
 	tbl.16b	v2, { v4 }, v2
 	eor.16b	v3, v3, v6
-	b	Ldeerlapse_0_1_0_BB14_6
-Ldeerlapse_0_1_0_BB14_9:                                ; %"aead_ciphers_wide::aes::key_schedule::expand.exit"
+	b	Ldeerlapse_0_1_0_BB14_4
+Ldeerlapse_0_1_0_BB14_7:                                ; %"aead_ciphers_wide::aes::key_schedule::expand.exit"
 	add	x0, x9, #6
 	ret
 	.loh AdrpLdr	Ldeerlapse_0_1_0_loh34, Ldeerlapse_0_1_0_loh35
@@ -4070,33 +4067,55 @@ ldeerlapse_0_1_0_CPI20_3:
 	.p2align	2
 "_deerlapse_0_1_0::aead_ciphers_wide::aes_gcm::ExpandedKey::expand_with_width": ; @"aead_ciphers_wide::aes_gcm::ExpandedKey::expand_with_width"
 ; %bb.0:                                ; %start
-	sub	sp, sp, #128
-	stp	x24, x23, [sp, #64]             ; 16-byte Folded Spill
-	add	x23, x0, #1928
-	stp	x20, x19, [sp, #96]             ; 16-byte Folded Spill
+	sub	sp, sp, #112
+	stp	x22, x21, [sp, #64]             ; 16-byte Folded Spill
+	add	x22, x0, #1928
+	mov	w21, w3
+	stp	x20, x19, [sp, #80]             ; 16-byte Folded Spill
 	mov	x19, x0
 	add	x0, x0, #1928
-	stp	x22, x21, [sp, #80]             ; 16-byte Folded Spill
+	stp	x29, x30, [sp, #96]             ; 16-byte Folded Spill
+	add	x29, sp, #96
 	mov	x20, x4
-	mov	w22, w3
-	stp	x29, x30, [sp, #112]            ; 16-byte Folded Spill
-	add	x29, sp, #112
 	bl	"_deerlapse_0_1_0::aead_ciphers_wide::aes::expand"
-	mov	x21, x0
-	cmp	x0, #14
-	b.eq	Ldeerlapse_0_1_0_BB20_2
-; %bb.1:                                ; %join.5.i.i.preheader
-	lsl	x8, x21, #7
-	mov	w9, #1792                       ; =0x700
-	add	x10, x19, x8
-	sub	x1, x9, x8
-	add	x0, x10, #128
-	bl	_bzero
-Ldeerlapse_0_1_0_BB20_2:                                ; %join.7.i.preheader
-	add	x8, x21, #1
+	movi.2d	v0, #0000000000000000
+	mov	x2, x0
+	add	x8, x0, #1
 	add	x9, x19, #64
 	add	x10, x19, #1928
-Ldeerlapse_0_1_0_BB20_3:                                ; %join.7.i
+	str	q0, [x19, #1408]
+	str	q0, [x19, #1424]
+	str	q0, [x19, #1440]
+	str	q0, [x19, #1456]
+	str	q0, [x19, #1472]
+	str	q0, [x19, #1488]
+	str	q0, [x19, #1504]
+	str	q0, [x19, #1520]
+	str	q0, [x19, #1536]
+	str	q0, [x19, #1552]
+	str	q0, [x19, #1568]
+	str	q0, [x19, #1584]
+	str	q0, [x19, #1600]
+	str	q0, [x19, #1616]
+	str	q0, [x19, #1632]
+	str	q0, [x19, #1648]
+	str	q0, [x19, #1664]
+	str	q0, [x19, #1680]
+	str	q0, [x19, #1696]
+	str	q0, [x19, #1712]
+	str	q0, [x19, #1728]
+	str	q0, [x19, #1744]
+	str	q0, [x19, #1760]
+	str	q0, [x19, #1776]
+	str	q0, [x19, #1792]
+	str	q0, [x19, #1808]
+	str	q0, [x19, #1824]
+	str	q0, [x19, #1840]
+	str	q0, [x19, #1856]
+	str	q0, [x19, #1872]
+	str	q0, [x19, #1888]
+	str	q0, [x19, #1904]
+Ldeerlapse_0_1_0_BB20_1:                                ; %join.7.i
                                         ; =>This Inner Loop Header: Depth=1
 	movi.16b	v0, #4
 	movi.16b	v2, #8
@@ -4121,26 +4140,25 @@ Ldeerlapse_0_1_0_BB20_3:                                ; %join.7.i
 	stp	q3, q0, [x9, #-64]
 	stp	q2, q1, [x9, #32]
 	add	x9, x9, #128
-	b.ne	Ldeerlapse_0_1_0_BB20_3
-; %bb.4:                                ; %"aead_ciphers_wide::aes::round_keys::write_planes.exit"
-	tst	w22, #0x1
+	b.ne	Ldeerlapse_0_1_0_BB20_1
+; %bb.2:                                ; %"aead_ciphers_wide::aes::round_keys::write_planes.exit"
+	tst	w21, #0x1
 	mov	w8, #128                        ; =0x80
 	mov	w9, #256                        ; =0x100
 	csel	w8, w9, w8, ne
-	str	w21, [x19, #1920]
+	str	w2, [x19, #1920]
 	add	x0, sp, #48
 	str	w8, [x19, #1924]
 	add	x1, x19, #1928
 	add	x3, sp, #32
 	ldr	x8, [x20]
-	mov	x2, x21
 	stp	xzr, xzr, [sp, #32]
 	stp	xzr, xzr, [sp, #48]
 	add	x8, x8, #1
 	str	x8, [x20]
 	bl	"_deerlapse_0_1_0::aead_ciphers_wide::aes::block_key::BlockKeyRef::encrypt_one"
 	ldr	q0, [sp, #48]
-	add	x0, x23, #240
+	add	x0, x22, #240
 	dup.2d	v1, v0[1]
 	mov.d	x8, v0[1]
 	fmov	x9, d0
@@ -4168,7 +4186,7 @@ Ldeerlapse_0_1_0_loh52:
 	ldr	q2, [x8, ldeerlapse_0_1_0_CPI20_2@PAGEOFF]
 Ldeerlapse_0_1_0_loh53:
 	ldr	q3, [x9, ldeerlapse_0_1_0_CPI20_3@PAGEOFF]
-	ldp	x29, x30, [sp, #112]            ; 16-byte Folded Reload
+	ldp	x29, x30, [sp, #96]             ; 16-byte Folded Reload
 	ushl.2d	v4, v17, v0
 	ushl.2d	v5, v17, v1
 	ushl.2d	v6, v17, v2
@@ -4177,21 +4195,20 @@ Ldeerlapse_0_1_0_loh53:
 	ushl.2d	v3, v17, v3
 	ushl.2d	v0, v16, v0
 	ushl.2d	v1, v16, v1
-	ldp	x20, x19, [sp, #96]             ; 16-byte Folded Reload
+	ldp	x20, x19, [sp, #80]             ; 16-byte Folded Reload
 	uzp1.4s	v2, v7, v2
-	ldp	q16, q7, [x23, #432]
+	ldp	q16, q7, [x22, #432]
 	uzp1.4s	v0, v1, v0
 	uzp1.4s	v1, v3, v6
 	uzp1.4s	v3, v5, v4
-	ldp	x22, x21, [sp, #80]             ; 16-byte Folded Reload
 	uzp1.8h	v0, v0, v2
 	uzp1.8h	v1, v3, v1
 	movi.16b	v2, #15
-	ldp	q4, q3, [x23, #464]
+	ldp	q4, q3, [x22, #464]
 	uzp1.16b	v0, v1, v0
 	ushr.16b	v1, v0, #4
 	and.16b	v0, v0, v2
-	ldp	q5, q2, [x23, #720]
+	ldp	q5, q2, [x22, #720]
 	tbl.16b	v3, { v3 }, v1
 	tbl.16b	v4, { v4 }, v1
 	tbl.16b	v7, { v7 }, v1
@@ -4200,7 +4217,7 @@ Ldeerlapse_0_1_0_loh53:
 	tbl.16b	v5, { v5 }, v0
 	eor.16b	v3, v6, v3
 	eor.16b	v4, v4, v5
-	ldp	q17, q5, [x23, #688]
+	ldp	q17, q5, [x22, #688]
 	ext.16b	v6, v2, v3, #15
 	ext.16b	v3, v3, v2, #15
 	tbl.16b	v5, { v5 }, v0
@@ -4208,11 +4225,11 @@ Ldeerlapse_0_1_0_loh53:
 	eor.16b	v5, v7, v5
 	tbl.16b	v7, { v16 }, v1
 	tbl.16b	v16, { v17 }, v0
-	ldp	q18, q17, [x23, #400]
+	ldp	q18, q17, [x22, #400]
 	ext.16b	v6, v2, v4, #15
 	ext.16b	v3, v4, v3, #15
 	eor.16b	v7, v7, v16
-	ldp	q19, q16, [x23, #656]
+	ldp	q19, q16, [x22, #656]
 	tbl.16b	v17, { v17 }, v1
 	eor.16b	v5, v5, v6
 	tbl.16b	v16, { v16 }, v0
@@ -4221,10 +4238,10 @@ Ldeerlapse_0_1_0_loh53:
 	eor.16b	v16, v17, v16
 	tbl.16b	v17, { v18 }, v1
 	tbl.16b	v18, { v19 }, v0
-	ldp	q20, q19, [x23, #368]
+	ldp	q20, q19, [x22, #368]
 	eor.16b	v7, v7, v6
 	eor.16b	v17, v17, v18
-	ldp	q21, q18, [x23, #624]
+	ldp	q21, q18, [x22, #624]
 	ext.16b	v6, v2, v7, #15
 	tbl.16b	v19, { v19 }, v1
 	ext.16b	v3, v7, v3, #15
@@ -4234,7 +4251,7 @@ Ldeerlapse_0_1_0_loh53:
 	tbl.16b	v19, { v20 }, v1
 	tbl.16b	v20, { v21 }, v0
 	ext.16b	v16, v2, v6, #15
-	ldp	q22, q21, [x23, #336]
+	ldp	q22, q21, [x22, #336]
 	ext.16b	v3, v6, v3, #15
 	eor.16b	v19, v19, v20
 	tbl.16b	v21, { v21 }, v1
@@ -4246,16 +4263,16 @@ Ldeerlapse_0_1_0_loh53:
 	ext.16b	v18, v2, v17, #15
 	ext.16b	v3, v17, v3, #15
 	eor.16b	v18, v19, v18
-	ldp	q19, q20, [x23, #592]
+	ldp	q19, q20, [x22, #592]
 	tbl.16b	v20, { v20 }, v0
 	ext.16b	v4, v2, v18, #15
 	tbl.16b	v19, { v19 }, v0
 	ext.16b	v3, v18, v3, #15
 	eor.16b	v20, v21, v20
 	eor.16b	v5, v5, v19
-	ldp	q6, q19, [x23, #560]
+	ldp	q6, q19, [x22, #560]
 	eor.16b	v4, v20, v4
-	ldp	q21, q20, [x23, #304]
+	ldp	q21, q20, [x22, #304]
 	tbl.16b	v19, { v19 }, v0
 	tbl.16b	v6, { v6 }, v0
 	ext.16b	v7, v2, v4, #15
@@ -4268,28 +4285,28 @@ Ldeerlapse_0_1_0_loh53:
 	ext.16b	v7, v2, v5, #15
 	ext.16b	v3, v5, v3, #15
 	eor.16b	v7, v19, v7
-	ldp	q19, q18, [x23, #272]
+	ldp	q19, q18, [x22, #272]
 	ext.16b	v17, v2, v7, #15
 	tbl.16b	v18, { v18 }, v1
 	tbl.16b	v5, { v19 }, v1
 	ext.16b	v3, v7, v3, #15
 	eor.16b	v6, v6, v17
-	ldp	q17, q16, [x23, #528]
+	ldp	q17, q16, [x22, #528]
 	tbl.16b	v16, { v16 }, v0
 	ext.16b	v4, v2, v6, #15
 	tbl.16b	v17, { v17 }, v0
 	ext.16b	v3, v6, v3, #15
 	eor.16b	v16, v18, v16
 	eor.16b	v5, v5, v17
-	ldp	q17, q6, [x23, #240]
+	ldp	q17, q6, [x22, #240]
 	eor.16b	v4, v16, v4
 	tbl.16b	v6, { v6 }, v1
 	tbl.16b	v1, { v17 }, v1
 	ext.16b	v7, v2, v4, #15
 	ext.16b	v3, v4, v3, #15
 	eor.16b	v5, v5, v7
-	ldp	q7, q16, [x23, #496]
-	ldp	x24, x23, [sp, #64]             ; 16-byte Folded Reload
+	ldp	q7, q16, [x22, #496]
+	ldp	x22, x21, [sp, #64]             ; 16-byte Folded Reload
 	tbl.16b	v16, { v16 }, v0
 	ext.16b	v4, v2, v5, #15
 	ext.16b	v3, v5, v3, #15
@@ -4315,7 +4332,7 @@ Ldeerlapse_0_1_0_loh53:
 	fmov	x9, d0
 	rev	x2, x9
 	rev	x1, x8
-	add	sp, sp, #128
+	add	sp, sp, #112
 	b	"_deerlapse_0_1_0::aead_ciphers_wide::gcm::product::write_products"
 	.loh AdrpLdr	Ldeerlapse_0_1_0_loh51, Ldeerlapse_0_1_0_loh53
 	.loh AdrpLdr	Ldeerlapse_0_1_0_loh49, Ldeerlapse_0_1_0_loh52

@@ -4248,28 +4248,24 @@
 	setne	%al
 	shll	$4, %eax
 	addq	$16, %rax
-	testb	%sil, %sil
-	jne	.Ldeerlapse_0_1_0_BB14_2
-# %bb.1:                                # %join.5.i.preheader.i
 	xorps	%xmm0, %xmm0
 	movups	%xmm0, 224(%rdi)
 	movups	%xmm0, 208(%rdi)
 	movups	%xmm0, 192(%rdi)
 	movups	%xmm0, 176(%rdi)
-.Ldeerlapse_0_1_0_BB14_2:                               # %"aead_ciphers_wide::aes::round_keys::clear_rows::<#7feab25f0a128cef>.exit.i"
 	movl	%eax, %r8d
 	shrl	$4, %r8d
 	xorl	%ecx, %ecx
 	movq	%r8, %r9
 	.p2align	4
-.Ldeerlapse_0_1_0_BB14_3:                               # %join.5.i619.i.epil
+.Ldeerlapse_0_1_0_BB14_1:                               # %join.5.i617.i.epil
                                         # =>This Inner Loop Header: Depth=1
 	movups	(%rdx,%rcx), %xmm0
 	movups	%xmm0, (%rdi,%rcx)
 	addq	$16, %rcx
 	decq	%r9
-	jne	.Ldeerlapse_0_1_0_BB14_3
-# %bb.4:                                # %join.5.lr.ph.i
+	jne	.Ldeerlapse_0_1_0_BB14_1
+# %bb.2:                                # %join.5.lr.ph.i
 	xorl	%ecx, %ecx
 	testb	%sil, %sil
 	setne	%cl
@@ -4281,22 +4277,22 @@
 	leaq	6(%rdx), %rax
 	leaq	-1(%r8), %rdi
 	addq	$7, %rdx
-	jmp	.Ldeerlapse_0_1_0_BB14_5
+	jmp	.Ldeerlapse_0_1_0_BB14_3
 	.p2align	4
-.Ldeerlapse_0_1_0_BB14_10:                              # %"aead_ciphers_wide::aes::key_schedule::transformed.exit.i"
-                                        #   in Loop: Header=BB14_5 Depth=1
+.Ldeerlapse_0_1_0_BB14_8:                               # %"aead_ciphers_wide::aes::key_schedule::transformed.exit.i"
+                                        #   in Loop: Header=BB14_3 Depth=1
 	incq	%r8
 	addq	$16, %r9
 	movdqa	%xmm0, %xmm1
 	movdqa	%xmm3, %xmm0
 	cmpq	%r8, %rdx
-	je	.Ldeerlapse_0_1_0_BB14_11
-.Ldeerlapse_0_1_0_BB14_5:                               # %join.5.i
+	je	.Ldeerlapse_0_1_0_BB14_9
+.Ldeerlapse_0_1_0_BB14_3:                               # %join.5.i
                                         # =>This Inner Loop Header: Depth=1
 	testq	%rdi, %r8
-	je	.Ldeerlapse_0_1_0_BB14_6
-# %bb.7:                                # %else.4.i.i
-                                        #   in Loop: Header=BB14_5 Depth=1
+	je	.Ldeerlapse_0_1_0_BB14_4
+# %bb.5:                                # %else.4.i.i
+                                        #   in Loop: Header=BB14_3 Depth=1
 	pshufd	$255, %xmm0, %xmm2              # xmm2 = xmm0[3,3,3,3]
 	movdqa	.Ldeerlapse_0_1_0_CPI14_0(%rip), %xmm3          # xmm3 = [15,15,15,15,15,15,15,15,15,15,15,15,15,15,15,15]
 	movdqa	%xmm2, %xmm4
@@ -4333,10 +4329,10 @@
 	movdqa	.Ldeerlapse_0_1_0_CPI14_6(%rip), %xmm2          # xmm2 = [0,129,153,118,10,253,239,124,100,24,18,147,229,247,139,110]
 	pshufb	%xmm6, %xmm2
 	pxor	%xmm3, %xmm2
-	jmp	.Ldeerlapse_0_1_0_BB14_8
+	jmp	.Ldeerlapse_0_1_0_BB14_6
 	.p2align	4
-.Ldeerlapse_0_1_0_BB14_6:                               # %ok.6.i.i
-                                        #   in Loop: Header=BB14_5 Depth=1
+.Ldeerlapse_0_1_0_BB14_4:                               # %ok.6.i.i
+                                        #   in Loop: Header=BB14_3 Depth=1
 	movq	%r8, %r10
 	shrq	%cl, %r10
 	movdqa	%xmm0, %xmm2
@@ -4381,8 +4377,8 @@
 	pshufb	.Ldeerlapse_0_1_0_CPI14_8(%rip), %xmm2          # xmm2 = xmm2[0],zero,zero,zero,xmm2[0],zero,zero,zero,xmm2[0],zero,zero,zero,xmm2[0],zero,zero,zero
 	pxor	%xmm3, %xmm2
 	pxor	%xmm4, %xmm2
-.Ldeerlapse_0_1_0_BB14_8:                               # %"aead_ciphers_wide::aes::key_schedule::transformed.exit.i"
-                                        #   in Loop: Header=BB14_5 Depth=1
+.Ldeerlapse_0_1_0_BB14_6:                               # %"aead_ciphers_wide::aes::key_schedule::transformed.exit.i"
+                                        #   in Loop: Header=BB14_3 Depth=1
 	movdqa	%xmm1, %xmm4
 	pslldq	$4, %xmm4                       # xmm4 = zero,zero,zero,zero,xmm4[0,1,2,3,4,5,6,7,8,9,10,11]
 	pxor	%xmm1, %xmm4
@@ -4393,12 +4389,12 @@
 	pxor	.Ldeerlapse_0_1_0_CPI14_9(%rip), %xmm3
 	movdqu	%xmm3, (%r9)
 	testb	%sil, %sil
-	jne	.Ldeerlapse_0_1_0_BB14_10
-# %bb.9:                                # %"aead_ciphers_wide::aes::key_schedule::transformed.exit.i"
-                                        #   in Loop: Header=BB14_5 Depth=1
+	jne	.Ldeerlapse_0_1_0_BB14_8
+# %bb.7:                                # %"aead_ciphers_wide::aes::key_schedule::transformed.exit.i"
+                                        #   in Loop: Header=BB14_3 Depth=1
 	movdqa	%xmm3, %xmm0
-	jmp	.Ldeerlapse_0_1_0_BB14_10
-.Ldeerlapse_0_1_0_BB14_11:                              # %"aead_ciphers_wide::aes::key_schedule::expand.exit"
+	jmp	.Ldeerlapse_0_1_0_BB14_8
+.Ldeerlapse_0_1_0_BB14_9:                               # %"aead_ciphers_wide::aes::key_schedule::expand.exit"
 	retq
 .Ldeerlapse_0_1_0_func_end14:
 	.size	"deerlapse_0_1_0::aead_ciphers_wide::aes::expand", .Ldeerlapse_0_1_0_func_end14-"deerlapse_0_1_0::aead_ciphers_wide::aes::expand"
@@ -5148,35 +5144,28 @@
 # %bb.0:                                # %start
 	pushq	%r15
 	pushq	%r14
+	pushq	%r13
 	pushq	%r12
 	pushq	%rbx
-	subq	$56, %rsp
+	subq	$48, %rsp
 	movq	%rcx, %r15
 	movq	%rdi, %rbx
 	leaq	1928(%rdi), %r14
 	movq	%r14, %rdi
 	callq	"deerlapse_0_1_0::aead_ciphers_wide::aes::expand"
 	movq	%rax, %r12
-	cmpq	$14, %rax
-	je	.Ldeerlapse_0_1_0_BB20_2
-# %bb.1:                                # %join.5.i.i.preheader
-	movq	%r12, %rax
-	shlq	$7, %rax
-	leaq	(%rbx,%rax), %rdi
-	addq	$128, %rdi
-	movl	$1792, %edx                     # imm = 0x700
-	subq	%rax, %rdx
+	leaq	1408(%rbx), %rdi
+	xorl	%r13d, %r13d
+	movl	$512, %edx                      # imm = 0x200
 	xorl	%esi, %esi
 	callq	memset@PLT
-.Ldeerlapse_0_1_0_BB20_2:                               # %join.7.i.preheader
 	movq	%r12, %rax
 	shlq	$4, %rax
 	addq	$16, %rax
-	xorl	%ecx, %ecx
 	.p2align	4
-.Ldeerlapse_0_1_0_BB20_3:                               # %join.7.i
+.Ldeerlapse_0_1_0_BB20_1:                               # %join.7.i
                                         # =>This Inner Loop Header: Depth=1
-	movdqu	1928(%rbx,%rcx), %xmm1
+	movdqu	1928(%rbx,%r13), %xmm1
 	movdqa	.Ldeerlapse_0_1_0_CPI20_0(%rip), %xmm3          # xmm3 = [1,1,1,1,1,1,1,1,1,1,1,1,1,1,1,1]
 	pand	%xmm1, %xmm3
 	xorps	%xmm0, %xmm0
@@ -5212,18 +5201,18 @@
 	paddb	%xmm1, %xmm1
 	pxor	%xmm9, %xmm9
 	pcmpgtb	%xmm1, %xmm9
-	movdqu	%xmm2, (%rbx,%rcx,8)
-	movdqu	%xmm3, 16(%rbx,%rcx,8)
-	movdqu	%xmm4, 32(%rbx,%rcx,8)
-	movdqu	%xmm6, 48(%rbx,%rcx,8)
-	movdqu	%xmm5, 64(%rbx,%rcx,8)
-	movdqu	%xmm8, 80(%rbx,%rcx,8)
-	movdqu	%xmm9, 96(%rbx,%rcx,8)
-	movdqu	%xmm7, 112(%rbx,%rcx,8)
-	addq	$16, %rcx
-	cmpq	%rcx, %rax
-	jne	.Ldeerlapse_0_1_0_BB20_3
-# %bb.4:                                # %"aead_ciphers_wide::aes::round_keys::write_planes.exit"
+	movdqu	%xmm2, (%rbx,%r13,8)
+	movdqu	%xmm3, 16(%rbx,%r13,8)
+	movdqu	%xmm4, 32(%rbx,%r13,8)
+	movdqu	%xmm6, 48(%rbx,%r13,8)
+	movdqu	%xmm5, 64(%rbx,%r13,8)
+	movdqu	%xmm8, 80(%rbx,%r13,8)
+	movdqu	%xmm9, 96(%rbx,%r13,8)
+	movdqu	%xmm7, 112(%rbx,%r13,8)
+	addq	$16, %r13
+	cmpq	%r13, %rax
+	jne	.Ldeerlapse_0_1_0_BB20_1
+# %bb.2:                                # %"aead_ciphers_wide::aes::round_keys::write_planes.exit"
 	movl	%r12d, 1920(%rbx)
 	movl	$128, 1924(%rbx)
 	movaps	%xmm0, 32(%rsp)
@@ -5402,9 +5391,10 @@
 	bswapq	%rsi
 	bswapq	%rdx
 	movq	%r14, %rdi
-	addq	$56, %rsp
+	addq	$48, %rsp
 	popq	%rbx
 	popq	%r12
+	popq	%r13
 	popq	%r14
 	popq	%r15
 	jmp	"deerlapse_0_1_0::aead_ciphers_wide::gcm::product::write_products" # TAILCALL

@@ -4093,26 +4093,22 @@
 	setne	%al
 	shll	$4, %eax
 	addq	$16, %rax
-	testb	%sil, %sil
-	jne	.Ldeerlapse_0_1_0_v3_BB14_2
-# %bb.1:                                # %join.5.i.preheader.i
 	vxorps	%xmm0, %xmm0, %xmm0
 	vmovups	%ymm0, 208(%rdi)
 	vmovups	%ymm0, 176(%rdi)
-.Ldeerlapse_0_1_0_v3_BB14_2:                               # %"aead_ciphers_wide::aes::round_keys::clear_rows::<#7feab25f0a128cef>.exit.i"
 	movl	%eax, %ecx
 	shrl	$4, %ecx
 	xorl	%r8d, %r8d
 	movq	%rcx, %r9
 	.p2align	4
-.Ldeerlapse_0_1_0_v3_BB14_3:                               # %join.5.i619.i.epil
+.Ldeerlapse_0_1_0_v3_BB14_1:                               # %join.5.i617.i.epil
                                         # =>This Inner Loop Header: Depth=1
 	vmovups	(%rdx,%r8), %xmm0
 	vmovups	%xmm0, (%rdi,%r8)
 	addq	$16, %r8
 	decq	%r9
-	jne	.Ldeerlapse_0_1_0_v3_BB14_3
-# %bb.4:                                # %join.5.lr.ph.i
+	jne	.Ldeerlapse_0_1_0_v3_BB14_1
+# %bb.2:                                # %join.5.lr.ph.i
 	xorl	%edx, %edx
 	testb	%sil, %sil
 	setne	%dl
@@ -4124,22 +4120,22 @@
 	leaq	6(%r8), %rax
 	leaq	-1(%rcx), %rdi
 	addq	$7, %r8
-	jmp	.Ldeerlapse_0_1_0_v3_BB14_5
+	jmp	.Ldeerlapse_0_1_0_v3_BB14_3
 	.p2align	4
-.Ldeerlapse_0_1_0_v3_BB14_10:                              # %"aead_ciphers_wide::aes::key_schedule::transformed.exit.i"
-                                        #   in Loop: Header=BB14_5 Depth=1
+.Ldeerlapse_0_1_0_v3_BB14_8:                               # %"aead_ciphers_wide::aes::key_schedule::transformed.exit.i"
+                                        #   in Loop: Header=BB14_3 Depth=1
 	incq	%rcx
 	addq	$16, %r9
 	vmovdqa	%xmm0, %xmm1
 	vmovdqa	%xmm2, %xmm0
 	cmpq	%rcx, %r8
-	je	.Ldeerlapse_0_1_0_v3_BB14_11
-.Ldeerlapse_0_1_0_v3_BB14_5:                               # %join.5.i
+	je	.Ldeerlapse_0_1_0_v3_BB14_9
+.Ldeerlapse_0_1_0_v3_BB14_3:                               # %join.5.i
                                         # =>This Inner Loop Header: Depth=1
 	testq	%rdi, %rcx
-	je	.Ldeerlapse_0_1_0_v3_BB14_6
-# %bb.7:                                # %else.4.i.i
-                                        #   in Loop: Header=BB14_5 Depth=1
+	je	.Ldeerlapse_0_1_0_v3_BB14_4
+# %bb.5:                                # %else.4.i.i
+                                        #   in Loop: Header=BB14_3 Depth=1
 	vpshufd	$255, %xmm0, %xmm2              # xmm2 = xmm0[3,3,3,3]
 	vpbroadcastd	.Ldeerlapse_0_1_0_v3_CPI14_10(%rip), %xmm3 # xmm3 = [15,15,15,15,15,15,15,15,15,15,15,15,15,15,15,15]
 	vpand	%xmm3, %xmm2, %xmm4
@@ -4169,10 +4165,10 @@
 	vpshufb	%xmm3, %xmm4, %xmm3
 	vmovdqa	.Ldeerlapse_0_1_0_v3_CPI14_6(%rip), %xmm4          # xmm4 = [0,129,153,118,10,253,239,124,100,24,18,147,229,247,139,110]
 	vpshufb	%xmm2, %xmm4, %xmm2
-	jmp	.Ldeerlapse_0_1_0_v3_BB14_8
+	jmp	.Ldeerlapse_0_1_0_v3_BB14_6
 	.p2align	4
-.Ldeerlapse_0_1_0_v3_BB14_6:                               # %ok.6.i.i
-                                        #   in Loop: Header=BB14_5 Depth=1
+.Ldeerlapse_0_1_0_v3_BB14_4:                               # %ok.6.i.i
+                                        #   in Loop: Header=BB14_3 Depth=1
 	shrxq	%rdx, %rcx, %r10
 	vpshufb	.Ldeerlapse_0_1_0_v3_CPI14_7(%rip), %xmm0, %xmm2   # xmm2 = xmm0[13,14,15,12,13,14,15,12,13,14,15,12,13,14,15,12]
 	vpbroadcastd	.Ldeerlapse_0_1_0_v3_CPI14_10(%rip), %xmm3 # xmm3 = [15,15,15,15,15,15,15,15,15,15,15,15,15,15,15,15]
@@ -4207,8 +4203,8 @@
 	vpbroadcastb	-1(%r10,%r11), %xmm4
 	vpand	.Ldeerlapse_0_1_0_v3_CPI14_8(%rip), %xmm4, %xmm4
 	vpxor	%xmm4, %xmm3, %xmm3
-.Ldeerlapse_0_1_0_v3_BB14_8:                               # %"aead_ciphers_wide::aes::key_schedule::transformed.exit.i"
-                                        #   in Loop: Header=BB14_5 Depth=1
+.Ldeerlapse_0_1_0_v3_BB14_6:                               # %"aead_ciphers_wide::aes::key_schedule::transformed.exit.i"
+                                        #   in Loop: Header=BB14_3 Depth=1
 	vpxor	%xmm3, %xmm2, %xmm2
 	vpslldq	$4, %xmm1, %xmm3                # xmm3 = zero,zero,zero,zero,xmm1[0,1,2,3,4,5,6,7,8,9,10,11]
 	vpxor	%xmm1, %xmm3, %xmm1
@@ -4218,12 +4214,12 @@
 	vpxor	.Ldeerlapse_0_1_0_v3_CPI14_9(%rip), %xmm1, %xmm2
 	vmovdqu	%xmm2, (%r9)
 	testb	%sil, %sil
-	jne	.Ldeerlapse_0_1_0_v3_BB14_10
-# %bb.9:                                # %"aead_ciphers_wide::aes::key_schedule::transformed.exit.i"
-                                        #   in Loop: Header=BB14_5 Depth=1
+	jne	.Ldeerlapse_0_1_0_v3_BB14_8
+# %bb.7:                                # %"aead_ciphers_wide::aes::key_schedule::transformed.exit.i"
+                                        #   in Loop: Header=BB14_3 Depth=1
 	vmovdqa	%xmm2, %xmm0
-	jmp	.Ldeerlapse_0_1_0_v3_BB14_10
-.Ldeerlapse_0_1_0_v3_BB14_11:                              # %"aead_ciphers_wide::aes::key_schedule::expand.exit"
+	jmp	.Ldeerlapse_0_1_0_v3_BB14_8
+.Ldeerlapse_0_1_0_v3_BB14_9:                               # %"aead_ciphers_wide::aes::key_schedule::expand.exit"
 	vzeroupper
 	retq
 .Ldeerlapse_0_1_0_v3_func_end14:
@@ -5046,69 +5042,71 @@
 # %bb.0:                                # %start
 	pushq	%r15
 	pushq	%r14
-	pushq	%r12
 	pushq	%rbx
-	subq	$56, %rsp
+	subq	$48, %rsp
 	movq	%rcx, %r15
 	movq	%rdi, %rbx
 	leaq	1928(%rdi), %r14
 	movq	%r14, %rdi
 	callq	"deerlapse_0_1_0_v3::aead_ciphers_wide::aes::expand"
-	movq	%rax, %r12
-	cmpq	$14, %rax
-	je	.Ldeerlapse_0_1_0_v3_BB20_2
-# %bb.1:                                # %join.5.i.i.preheader
-	movq	%r12, %rax
-	shlq	$7, %rax
-	leaq	(%rbx,%rax), %rdi
-	addq	$128, %rdi
-	movl	$1792, %edx                     # imm = 0x700
-	subq	%rax, %rdx
-	xorl	%esi, %esi
-	callq	memset@PLT
-.Ldeerlapse_0_1_0_v3_BB20_2:                               # %join.7.i.preheader
-	movq	%r12, %rax
-	shlq	$4, %rax
-	addq	$16, %rax
-	xorl	%ecx, %ecx
-	.p2align	4
-.Ldeerlapse_0_1_0_v3_BB20_3:                               # %join.7.i
-                                        # =>This Inner Loop Header: Depth=1
-	vbroadcasti128	1928(%rbx,%rcx), %ymm1  # ymm1 = mem[0,1,0,1]
-	vpand	.Ldeerlapse_0_1_0_v3_CPI20_0(%rip), %xmm1, %xmm2
 	vpxor	%xmm0, %xmm0, %xmm0
-	vpsllw	$6, %xmm1, %xmm3
-	vpand	.Ldeerlapse_0_1_0_v3_CPI20_1(%rip), %xmm3, %xmm3
-	vpsubb	%xmm2, %xmm0, %xmm2
-	vpcmpgtb	%xmm3, %xmm0, %xmm3
-	vmovdqu	%xmm2, (%rbx,%rcx,8)
-	vmovdqu	%xmm3, 16(%rbx,%rcx,8)
-	vmovdqa	.Ldeerlapse_0_1_0_v3_CPI20_2(%rip), %ymm2          # ymm2 = [4,4,4,4,4,4,4,4,4,4,4,4,4,4,4,4,8,8,8,8,8,8,8,8,8,8,8,8,8,8,8,8]
-	vpand	%ymm2, %ymm1, %ymm3
-	vpcmpeqb	%ymm2, %ymm3, %ymm2
-	vmovdqu	%ymm2, 32(%rbx,%rcx,8)
-	vmovdqa	.Ldeerlapse_0_1_0_v3_CPI20_3(%rip), %ymm2          # ymm2 = [16,16,16,16,16,16,16,16,16,16,16,16,16,16,16,16,32,32,32,32,32,32,32,32,32,32,32,32,32,32,32,32]
-	vpand	%ymm2, %ymm1, %ymm3
-	vpcmpeqb	%ymm2, %ymm3, %ymm2
-	vmovdqu	%ymm2, 64(%rbx,%rcx,8)
-	vpaddb	%xmm1, %xmm1, %xmm2
-	vinserti128	$1, %xmm1, %ymm2, %ymm1
-	vpxor	%xmm2, %xmm2, %xmm2
-	vpcmpgtb	%ymm1, %ymm2, %ymm1
-	vmovdqu	%ymm1, 96(%rbx,%rcx,8)
+	vmovdqu	%ymm0, 1408(%rbx)
+	vmovdqu	%ymm0, 1440(%rbx)
+	vmovdqu	%ymm0, 1472(%rbx)
+	vmovdqu	%ymm0, 1504(%rbx)
+	vmovdqu	%ymm0, 1536(%rbx)
+	vmovdqu	%ymm0, 1568(%rbx)
+	vmovdqu	%ymm0, 1600(%rbx)
+	vmovdqu	%ymm0, 1632(%rbx)
+	vmovdqu	%ymm0, 1664(%rbx)
+	vmovdqu	%ymm0, 1696(%rbx)
+	vmovdqu	%ymm0, 1728(%rbx)
+	vmovdqu	%ymm0, 1760(%rbx)
+	vmovdqu	%ymm0, 1792(%rbx)
+	vmovdqu	%ymm0, 1824(%rbx)
+	vmovdqu	%ymm0, 1856(%rbx)
+	vmovdqu	%ymm0, 1888(%rbx)
+	movq	%rax, %rcx
+	shlq	$4, %rcx
 	addq	$16, %rcx
-	cmpq	%rcx, %rax
-	jne	.Ldeerlapse_0_1_0_v3_BB20_3
-# %bb.4:                                # %"aead_ciphers_wide::aes::round_keys::write_planes.exit"
-	movl	%r12d, 1920(%rbx)
+	xorl	%edx, %edx
+	.p2align	4
+.Ldeerlapse_0_1_0_v3_BB20_1:                               # %join.7.i
+                                        # =>This Inner Loop Header: Depth=1
+	vbroadcasti128	1928(%rbx,%rdx), %ymm2  # ymm2 = mem[0,1,0,1]
+	vpand	.Ldeerlapse_0_1_0_v3_CPI20_0(%rip), %xmm2, %xmm3
+	vpxor	%xmm1, %xmm1, %xmm1
+	vpsubb	%xmm3, %xmm1, %xmm3
+	vpsllw	$6, %xmm2, %xmm4
+	vpand	.Ldeerlapse_0_1_0_v3_CPI20_1(%rip), %xmm4, %xmm4
+	vmovdqu	%xmm3, (%rbx,%rdx,8)
+	vpcmpgtb	%xmm4, %xmm1, %xmm3
+	vmovdqu	%xmm3, 16(%rbx,%rdx,8)
+	vmovdqa	.Ldeerlapse_0_1_0_v3_CPI20_2(%rip), %ymm3          # ymm3 = [4,4,4,4,4,4,4,4,4,4,4,4,4,4,4,4,8,8,8,8,8,8,8,8,8,8,8,8,8,8,8,8]
+	vpand	%ymm3, %ymm2, %ymm4
+	vpcmpeqb	%ymm3, %ymm4, %ymm3
+	vmovdqu	%ymm3, 32(%rbx,%rdx,8)
+	vpaddb	%xmm2, %xmm2, %xmm3
+	vmovdqa	.Ldeerlapse_0_1_0_v3_CPI20_3(%rip), %ymm4          # ymm4 = [16,16,16,16,16,16,16,16,16,16,16,16,16,16,16,16,32,32,32,32,32,32,32,32,32,32,32,32,32,32,32,32]
+	vpand	%ymm4, %ymm2, %ymm5
+	vpcmpeqb	%ymm4, %ymm5, %ymm4
+	vmovdqu	%ymm4, 64(%rbx,%rdx,8)
+	vinserti128	$1, %xmm2, %ymm3, %ymm2
+	vpcmpgtb	%ymm2, %ymm0, %ymm2
+	vmovdqu	%ymm2, 96(%rbx,%rdx,8)
+	addq	$16, %rdx
+	cmpq	%rdx, %rcx
+	jne	.Ldeerlapse_0_1_0_v3_BB20_1
+# %bb.2:                                # %"aead_ciphers_wide::aes::round_keys::write_planes.exit"
+	movl	%eax, 1920(%rbx)
 	movl	$256, 1924(%rbx)                # imm = 0x100
-	vmovdqa	%xmm0, 32(%rsp)
-	vmovdqa	%xmm0, (%rsp)
+	vmovdqa	%xmm1, 32(%rsp)
+	vmovdqa	%xmm1, (%rsp)
 	incq	(%r15)
 	movq	%rsp, %rdi
 	leaq	32(%rsp), %rcx
 	movq	%r14, %rsi
-	movq	%r12, %rdx
+	movq	%rax, %rdx
 	vzeroupper
 	callq	"deerlapse_0_1_0_v3::aead_ciphers_wide::aes::block_key::BlockKeyRef::encrypt_one"
 	movbeq	8(%rsp), %rsi
@@ -5270,9 +5268,8 @@
 	bswapq	%rsi
 	bswapq	%rdx
 	movq	%r14, %rdi
-	addq	$56, %rsp
+	addq	$48, %rsp
 	popq	%rbx
-	popq	%r12
 	popq	%r14
 	popq	%r15
 	jmp	"deerlapse_0_1_0_v3::aead_ciphers_wide::gcm::product::write_products" # TAILCALL
