@@ -1,2 +1,3 @@
 mod LoanOver
+mod PartOpened
 mod TwoBlocks

@@ -1,16 +1,19 @@
 //! Tests of `examples` with test vectors of the standards.
 
 use crate::tests::cases::{aad, key, nonce, sealed};
-use crate::tests::checks::{equal, holds, same};
-use crate::tests::examples::{connection, messages, one_message, streams};
+use crate::tests::checks::{equal, holds, lends, same};
+use crate::tests::examples::{connection, messages, one_message, reassembly, streams};
 use aead_ciphers::aead::{
     AES_256_GCM, Aad, CounterSequence, LessSafeKey, NONCE_LEN, OpeningKey, SealingKey, Tag,
 };
+use aead_ciphers_base::aes::{self, KeyBytes};
 use aead_vectors::gcm_spec::{CASE_1, CASE_2, CASE_2_CIPHERTEXT, CASE_4, CASE_16, Case};
 use aead_vectors::{rfc_8439, rfc_9001};
 use arrayvec::ArrayVec;
+use std::alloc::Global;
 use std::process::Abort;
 use std::test::Fail;
+use test_support::reference;
 
 /// Asserts that a case is sealed, is rejected and unchanged with another AAD, and is opened with its own.
 fn seals_and_opens(
@@ -147,6 +150,67 @@ fn two_ends(rt: HostRuntime) -> Result<(), Fail> {
     connection::send_apart(&mut sender, &mut message)?;
     let received = connection::receive(&mut receiver, &[], &mut message);
     holds(&rt, received.is_err(), "no tag");
+    Ok(())
+}
+
+// Three packets with headers of five bytes, and the message that is split over them.
+const PARTS: [&[u8]; 3] = [
+    b"one message goes ",
+    b"in three parts ",
+    b"and comes whole.\n",
+];
+
+const MESSAGE: &[u8; 49] = b"one message goes in three parts and comes whole.\n";
+
+/// Returns the packets, sealed by the reference implementation under the keys of `two_ends`, one after another.
+fn packets(alloc: Global) -> Result<Vec<u8>, Fail> {
+    let key = aes::Key::new(KeyBytes::AES_256(&[5; 32]))?;
+    let mut nonce = [1, 2, 3, 4, 0, 0, 0, 0, 0, 0, 0, 0];
+    let mut bytes = Vec::new(alloc);
+    for (number, part) in (0..3u8).zip(PARTS) {
+        nonce[11] = number;
+        bytes.extend_from_slice(b"begin")?;
+        bytes.extend_from_slice(&reference::sealed(alloc, &key, &nonce, b"v1", part)?)?;
+    }
+    Ok(bytes)
+}
+
+/// Asserts that three calls of `open_within` put the message together.
+fn opens_each(rt: &impl Abort, buffer: &mut [u8; 112]) -> Result<(), Fail> {
+    let mut key = connection::receiver(&AES_256_GCM, &[5; 32], [1, 2, 3, 4])?;
+    let aad = Aad::from(b"v1".as_slice());
+    let opened = key.open_within(aad, &mut buffer[..38], 5..);
+    lends(rt, opened, PARTS[0], "the first packet");
+    let opened = key.open_within(aad, &mut buffer[17..74], 26..);
+    lends(rt, opened, PARTS[1], "the second packet");
+    let opened = key.open_within(aad, &mut buffer[32..], 47..);
+    lends(rt, opened, PARTS[2], "the third packet");
+    Ok(())
+}
+
+/// Asserts that the example puts the message together.
+fn reassembles(rt: &impl Abort, buffer: &mut [u8; 112]) -> Result<(), Fail> {
+    let mut key = connection::receiver(&AES_256_GCM, &[5; 32], [1, 2, 3, 4])?;
+    let end = reassembly::reassemble(&mut key, b"v1", buffer, 5..38, 43..74, 79..112);
+    equal(rt, end, Ok(49), "the message's length");
+    Ok(())
+}
+
+/// Asserts that the message is at the front, and that the bytes after it are as they were.
+fn is_whole(rt: &impl Abort, buffer: &[u8; 112], before: &[u8; 112]) {
+    same(rt, &buffer[..49], MESSAGE, "the message");
+    same(rt, &buffer[49..], &before[49..], "the bytes after it");
+}
+
+#[test]
+fn three_packets_of_one_buffer(rt: HostRuntime) -> Result<(), Fail> {
+    let packets = packets(rt.alloc())?;
+    let sealed = packets.as_slice().as_array::<112>().ok_or("the length")?;
+    let (mut each, mut all) = (*sealed, *sealed);
+    opens_each(&rt, &mut each)?;
+    reassembles(&rt, &mut all)?;
+    is_whole(&rt, &each, sealed);
+    is_whole(&rt, &all, sealed);
     Ok(())
 }
 

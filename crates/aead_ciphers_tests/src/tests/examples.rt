@@ -4,4 +4,5 @@ pub mod connection;
 pub mod messages;
 pub mod one_message;
 pub mod one_nonce;
+pub mod reassembly;
 pub mod streams;
