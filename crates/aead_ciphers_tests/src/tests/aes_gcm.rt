@@ -144,7 +144,8 @@ fn parts(bytes: &[u8], place: usize) -> (&[u8], &[u8]) {
     bytes.split_at(place.min(bytes.len()))
 }
 
-/// Asserts that a message is sealed as by `reference`, and opened at each of nine starts.
+/// Asserts that a message is sealed as by `reference`, and opened at each of six starts. So that the test doesn't take long, only
+/// some lengths are opened at three starts around a chunk too.
 fn every_start(rt: &impl Abort, alloc: Global, case: &Case, len: usize) -> Result<(), Fail> {
     let key = aes::Key::new(KeyBytes::from_slice(&case.key)?)?;
     let message = counting(alloc, len)?;
@@ -154,8 +155,13 @@ fn every_start(rt: &impl Abort, alloc: Global, case: &Case, len: usize) -> Resul
     let (tag, _) = sealed(case, &case.aad, &mut buffer)?;
     same(rt, &buffer, &ciphertext, "the ciphertext");
     same(rt, tag.as_ref(), &expected, "the tag");
-    for start in [0, 1, 4, 15, 16, 17, 3071, 3072, 3073] {
+    for start in [0, 1, 4, 15, 16, 17] {
         opened_from(rt, alloc, case, expected, (&message, &ciphertext), start)?;
+    }
+    if len % 16 < 2 || 3071 <= len {
+        for start in [3071, 3072, 3073] {
+            opened_from(rt, alloc, case, expected, (&message, &ciphertext), start)?;
+        }
     }
     Ok(())
 }
