@@ -147,7 +147,7 @@ fn two_ends(rt: HostRuntime) -> Result<(), Fail> {
         carries(&rt, &mut sender, &mut receiver, aad, &mut message)?;
     }
     let mut message = [7; 20];
-    connection::send_apart(&mut sender, &mut message)?;
+    let _ = connection::send_apart(&mut sender, &mut message)?;
     let received = connection::receive(&mut receiver, &[], &mut message);
     holds(&rt, received.is_err(), "no tag");
     Ok(())
