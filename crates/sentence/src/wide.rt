@@ -7,11 +7,19 @@ ghost use Rattle.aead_ciphers.specs.FreshNonces.{GrewFresh};
 ghost use Rattle.aead_ciphers.specs.Runs.{Runs};
 ghost use Rattle.sentence.specs.Sentence.{CallStep};
 
-use crate::calls;
 use crate::keys::Jobs;
+use crate::{calls, one_key};
 use aead_ciphers::aead::{Algorithm, CounterSequence, UnboundKey, Unspecified};
 use aead_ciphers::session::Job;
-use aead_ciphers_wide::aead::{OpeningKey, SealingKey};
+use aead_ciphers_wide::aead::{LessSafeKey, OpeningKey, SealingKey};
+
+/// Makes a key of these bytes, for calls that take the nonce. What these calls do is the sentence of `one_key`.
+pub fn new_key(algorithm: &'static Algorithm, key: &[u8]) -> Result<LessSafeKey, Unspecified>
+    ensures accepted { IsOk result ↔ (length key.now ≡ key_len algorithm.now) }
+    ensures bytes { IfOk result (λ made. made.bytes ≡ key.now) }
+{
+    one_key::new_key::<UnboundKey, LessSafeKey>(algorithm, key)
+}
 
 /// Makes a sealing key and an opening key of these bytes, which count their nonces, and runs a list of calls with them.
 pub fn every_list_of_calls(

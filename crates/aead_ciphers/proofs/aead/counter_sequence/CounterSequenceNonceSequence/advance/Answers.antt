@@ -10,6 +10,8 @@ returns-clause-ok c =
     let now : Counting = record { fixed = s.prefix; first = s.first; count = s.count; used = s.used } in
     let small : s.first + s.used < 2 ^ 64 = omega (arith, c.self.invariant.1, c.if-self.false) in
     rw (← c.self.view_is) (record {
+      size = search rules;
+      bytes = search rules;
       open_before = search rules;
       fresh = rw c.prefixed-nonce.ensures (fresh_prefixed now small);
       appended = rw c.prefixed-nonce.ensures (spent_nonces-next prefixed_nonce now);
