@@ -10,8 +10,8 @@ use crate::library::{OpeningKey, SealingKey, Session, UnboundKey};
 use aead_ciphers::aead::{Algorithm, NonceSequence, Unspecified};
 use aead_ciphers::session::Job;
 
-/// Makes a sealing key and an opening key of these bytes, and runs a list of calls with them, in order. Fails if the key has another
-/// length than the algorithm's.
+/// Makes a sealing key and an opening key of these bytes, and runs a list of calls with them, in order. Fails if the key has
+/// another length than the algorithm's.
 #[tactic(auto, using(crate::proofs::SentenceLemmas::sentence, aead_ciphers::proofs::FreshLemmas::fresh_run))]
 pub fn every_list_of_calls<
     U: UnboundKey,

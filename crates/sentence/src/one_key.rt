@@ -79,7 +79,8 @@ pub fn open_in_place_separate_tag_to_front<U: UnboundKey, K: LessSafeKey<U>>(
     in_out: &mut [u8],
     start: usize,
 ) -> Result<usize, Unspecified>
-    ensures opened { Opened (aes (K.key key.now).bytes) nonce (aad_bytes aad.entry) tag start in_out.old (is_ok result) in_out.new }
+    ensures opened { Opened (aes (K.key key.now).bytes) nonce (aad_bytes aad.entry) tag start
+        in_out.old (is_ok result) in_out.new }
     ensures count { IfOk result (λ n. n ≡ length in_out.old - start) }
 {
     key.open_in_place_separate_tag_to_front(nonce, aad, tag, in_out, start..)
@@ -109,7 +110,8 @@ pub fn open_within_to_front<U: UnboundKey, K: LessSafeKey<U>>(
     in_out: &mut [u8],
     start: usize,
 ) -> Result<usize, Unspecified>
-    ensures opened { OpenedAttached (aes (K.key key.now).bytes) nonce (aad_bytes aad.entry) start in_out.old (is_ok result) in_out.new }
+    ensures opened { OpenedAttached (aes (K.key key.now).bytes) nonce (aad_bytes aad.entry) start
+        in_out.old (is_ok result) in_out.new }
     ensures count { IfOk result (λ n. n ≡ length in_out.old - 16 - start) }
 {
     key.open_within_to_front(nonce, aad, in_out, start..)
@@ -137,7 +139,8 @@ pub fn open_in_place_to_front<U: UnboundKey, K: LessSafeKey<U>>(
     aad: Aad<'_>,
     in_out: &mut [u8],
 ) -> Result<usize, Unspecified>
-    ensures opened { OpenedAttached (aes (K.key key.now).bytes) nonce (aad_bytes aad.entry) 0 in_out.old (is_ok result) in_out.new }
+    ensures opened { OpenedAttached (aes (K.key key.now).bytes) nonce (aad_bytes aad.entry) 0
+        in_out.old (is_ok result) in_out.new }
     ensures count { IfOk result (λ n. n ≡ length in_out.old - 16) }
 {
     key.open_in_place_to_front(nonce, aad, in_out)
