@@ -19,13 +19,13 @@ pub(crate) struct PlainKey {
 }
 
 impl PlainKey {
-    ghost use Rattle.aead_ciphers_wide_tests.specs.PlainKey.{IsExpanded, bytes_of};
+    ghost use Rattle.std.specs.Prelude.{◌⊎◌, take};
 
     /// Expands the AES key.
     fn aes(&self) -> Result<aes::Key, Unspecified>
-        requires { IsExpanded self.now }
+        requires { (self.now.len ≡ 16) ⊎ (self.now.len ≡ 32) }
         ensures accepted { IsOk result }
-        ensures made { IfOk result (λ key. key ≡ bytes_of self.now) }
+        ensures made { IfOk result (λ key. key ≡ take self.now.len self.now.bytes) }
     {
         aes::Key::new(KeyBytes::from_slice(&self.bytes[..self.len])?)
     }
@@ -39,15 +39,17 @@ impl PlainKey {
 }
 
 impl GcmKey for PlainKey {
-    ghost use Rattle.std.specs.Prelude.{◌≡◌};
+    ghost use Rattle.std.specs.Prelude.{◌≡◌, ◌⊎◌, replicate, take};
     ghost use Rattle.std.proofs.Common.{rules};
-    ghost use Rattle.aead_ciphers_wide_tests.specs.PlainKey as specs;
+    ghost use Rattle.aead_ciphers_base.specs.Aes.{aes};
+    ghost use Rattle.aead_ciphers_base.specs.Bytes.{zero_block};
 
-    ghost bytes_of = { specs.bytes_of };
+    ghost bytes_of = { λ key. take key.len key.bytes };
 
-    ghost is_expanded = { specs.IsExpanded };
+    ghost is_expanded = { λ key. ((key.len ≡ 16) ⊎ (key.len ≡ 32))
+        × (key.subkey ≡ aes (take key.len key.bytes) zero_block) };
 
-    ghost zero_key = { specs.zero_key };
+    ghost zero_key = { record { bytes = replicate 32 0; len = 0; subkey = zero_block } };
 
     ghost clones = { λ key clone is. Prim.search rules };
 
