@@ -12,4 +12,5 @@ pub mod keys;
 pub mod library;
 pub mod one_key;
 pub mod plain;
+pub mod values;
 pub mod wide;

@@ -10,9 +10,11 @@ ghost use Rattle.sentence.specs.Sentence.{CallStep};
 use crate::keys::Jobs;
 use crate::{calls, one_key};
 use aead_ciphers::aead::{
-    Algorithm, CounterSequence, LessSafeKey, OpeningKey, SealingKey, UnboundKey, Unspecified,
+    Algorithm, BoundKey, CounterSequence, LessSafeKey, NonceSequence, OpeningKey, SealingKey,
+    UnboundKey, Unspecified,
 };
 use aead_ciphers::session::Job;
+use std::alloc::AllocError;
 
 /// Makes a key of these bytes, for calls that take the nonce. What these calls do is the sentence of `one_key`.
 pub fn new_key(algorithm: &'static Algorithm, key: &[u8]) -> Result<LessSafeKey, Unspecified>
@@ -20,6 +22,29 @@ pub fn new_key(algorithm: &'static Algorithm, key: &[u8]) -> Result<LessSafeKey,
     ensures bytes { IfOk result (λ made. made.bytes ≡ key.now) }
 {
     one_key::new_key::<UnboundKey, LessSafeKey>(algorithm, key)
+}
+
+/// Clones a key. Fails if there is no memory.
+pub fn clone_key(key: &LessSafeKey) -> Result<LessSafeKey, AllocError>
+    ensures { IfOk result (λ clone. clone ≡ key.now) }
+{
+    key.clone()
+}
+
+/// Binds a key to a sequence, for sealing. What its calls do is the sentence of `bound`.
+pub fn new_sealing_key<N: NonceSequence + Drop>(unbound: UnboundKey, nonces: N) -> SealingKey<N>
+    ensures key_kept { result.key ≡ unbound }
+    ensures sequence_kept { result.sequence ≡ nonces }
+{
+    SealingKey::new(unbound, nonces)
+}
+
+/// Binds a key to a sequence, for opening. What its calls do is the sentence of `bound`.
+pub fn new_opening_key<N: NonceSequence + Drop>(unbound: UnboundKey, nonces: N) -> OpeningKey<N>
+    ensures key_kept { result.key ≡ unbound }
+    ensures sequence_kept { result.sequence ≡ nonces }
+{
+    OpeningKey::new(unbound, nonces)
 }
 
 /// Makes a sealing key and an opening key of these bytes, which count their nonces, and runs a list of calls with them.
@@ -31,8 +56,10 @@ pub fn every_list_of_calls(
     jobs: &mut [Job],
 ) -> Result<(SealingKey<CounterSequence>, OpeningKey<CounterSequence>), Unspecified>
     ensures accepted { IsOk result ↔ (length key.now ≡ key_len algorithm.now) }
+    ensures sealing_bytes { IfOk result (λ keys. keys.0.key.bytes ≡ key.now) }
+    ensures opening_bytes { IfOk result (λ keys. keys.1.key.bytes ≡ key.now) }
     ensures calls { let spent = spent_nonces prefixed_nonce in
-        IfOk result (λ keys. Runs (CallStep spent is_used_up spent is_used_up key.now)
+        IfOk result (λ keys. Runs (CallStep spent is_used_up spent is_used_up key.now key.now)
         (sealing_nonces, opening_nonces) (keys.0.sequence, keys.1.sequence) jobs.old jobs.new) }
     ensures no_nonce_twice { let spent = spent_nonces prefixed_nonce in
         IfOk result (λ keys. GrewFresh (spent sealing_nonces) (spent keys.0.sequence)) }
