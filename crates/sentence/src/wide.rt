@@ -7,8 +7,8 @@ ghost use Rattle.aead_ciphers.specs.FreshNonces.{GrewFresh};
 ghost use Rattle.aead_ciphers.specs.Runs.{Runs};
 ghost use Rattle.sentence.specs.Sentence.{CallStep};
 
+use crate::calls;
 use crate::keys::Jobs;
-use crate::{calls, one_key};
 use aead_ciphers::aead::{
     Algorithm, BoundKey, CounterSequence, NonceSequence, UnboundKey, Unspecified,
 };
@@ -21,7 +21,7 @@ pub fn new_key(algorithm: &'static Algorithm, key: &[u8]) -> Result<LessSafeKey,
     ensures accepted { IsOk result ↔ (length key.now ≡ key_len algorithm.now) }
     ensures bytes { IfOk result (λ made. made.bytes ≡ key.now) }
 {
-    one_key::new_key::<UnboundKey, LessSafeKey>(algorithm, key)
+    Ok(LessSafeKey::new(UnboundKey::new(algorithm, key)?))
 }
 
 /// Clones a key. Fails if there is no memory.
@@ -31,20 +31,30 @@ pub fn clone_key(key: &LessSafeKey) -> Result<LessSafeKey, AllocError>
     key.clone()
 }
 
-/// Binds a key to a sequence, for sealing. What its calls do is the sentence of `bound`.
-pub fn new_sealing_key<N: NonceSequence + Drop>(unbound: UnboundKey, nonces: N) -> SealingKey<N>
-    ensures key_kept { result.key ≡ unbound }
-    ensures sequence_kept { result.sequence ≡ nonces }
+/// Makes a sealing key of these bytes over a sequence. What its calls do is the sentence of `bound`.
+pub fn new_sealing_key<N: NonceSequence + Drop>(
+    algorithm: &'static Algorithm,
+    key: &[u8],
+    nonces: N,
+) -> Result<SealingKey<N>, Unspecified>
+    ensures accepted { IsOk result ↔ (length key.now ≡ key_len algorithm.now) }
+    ensures bytes { IfOk result (λ made. made.key.bytes ≡ key.now) }
+    ensures sequence { IfOk result (λ made. made.sequence ≡ nonces) }
 {
-    SealingKey::new(unbound, nonces)
+    Ok(SealingKey::new(UnboundKey::new(algorithm, key)?, nonces))
 }
 
-/// Binds a key to a sequence, for opening. What its calls do is the sentence of `bound`.
-pub fn new_opening_key<N: NonceSequence + Drop>(unbound: UnboundKey, nonces: N) -> OpeningKey<N>
-    ensures key_kept { result.key ≡ unbound }
-    ensures sequence_kept { result.sequence ≡ nonces }
+/// Makes an opening key of these bytes over a sequence. What its calls do is the sentence of `bound`.
+pub fn new_opening_key<N: NonceSequence + Drop>(
+    algorithm: &'static Algorithm,
+    key: &[u8],
+    nonces: N,
+) -> Result<OpeningKey<N>, Unspecified>
+    ensures accepted { IsOk result ↔ (length key.now ≡ key_len algorithm.now) }
+    ensures bytes { IfOk result (λ made. made.key.bytes ≡ key.now) }
+    ensures sequence { IfOk result (λ made. made.sequence ≡ nonces) }
 {
-    OpeningKey::new(unbound, nonces)
+    Ok(OpeningKey::new(UnboundKey::new(algorithm, key)?, nonces))
 }
 
 /// Makes a sealing key and an opening key of these bytes, which count their nonces, and runs a list of calls with them.
