@@ -3,7 +3,8 @@
 //!
 //! Read `calls` first, whose contract is the sentence about lists of calls, and then `bound` and `one_key`, which have it for one
 //! call. They are proved from the traits of `library` alone. `keys` shows that the types of `aead_ciphers` have these traits over
-//! any expanded key, and `plain` and `wide` say the sentence for the keys of each library.
+//! any expanded key, and `plain` and `wide` say the sentence for the keys of each library. `values` says what the values hold that
+//! the calls take and return.
 #![tactic(auto)]
 
 pub mod bound;
