@@ -205,7 +205,8 @@ module _ (c : Connection) (id_len : ℕ) (id datagram : List ℕ) (at : ℕ) (pa
 
       pub bytes_kept : is_opened (opened_of result) ≡ false → new ≡ datagram
       bytes_kept unopened =
-          let it : is_opened (Some o) ≡ false = subst (λ x. is_opened x ≡ false) (ap opened_of stepped ∙ opened_is parts.end goes_on parts.packet_type o) unopened in
+          let it : is_opened (Some o) ≡ false =
+          subst (λ x. is_opened x ≡ false) (ap opened_of stepped ∙ opened_is parts.end goes_on parts.packet_type o) unopened in
           same_bytes o at_it.bytes_kept it
         where
           same_bytes : (o : Result Received ReceiveError) → IfErr o (λ error. is_of_opened error ≡ false → new ≡ datagram)
