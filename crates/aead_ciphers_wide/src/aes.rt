@@ -33,7 +33,8 @@ pub use block_key::{BlockKey, BlockKeyRef};
 pub(crate) use round_keys::joined;
 pub use round_keys::{RoundKeys, RoundPlanes, write_planes};
 
-/// The width of the planes on which a key encrypts batches of blocks. It changes no result.
+/// The width of the planes on which a key encrypts batches of blocks. No result depends on it, so no contract says which width
+/// a key has, except that of `ExpandedKey::expand_with_width`: a key of another width would only be slower.
 #[derive(Clone, Copy)]
 pub enum Width {
     /// Eight blocks on planes of 128 bits. The faster where vectors have 128 bits, such as SSE2 and NEON.
@@ -80,7 +81,8 @@ impl Model for Key {
 }
 
 impl Key {
-    /// Expands a key of 16 or 32 bytes (FIPS 197 section 5.2), with planes of 128 bits. Never fails.
+    /// Expands a key of 16 or 32 bytes (FIPS 197 section 5.2), for planes of 128 bits. Never fails. The contract doesn't say the
+    /// width.
     pub fn new(bytes: KeyBytes<'_>) -> Result<Key, Unspecified>
         ensures accepted { IsOk result }
         ensures made { IfOk result (λ key. key ≡ key_bytes bytes.entry) }
@@ -97,7 +99,8 @@ impl Key {
         })
     }
 
-    /// Expands a key of 16 or 32 bytes (FIPS 197 section 5.2), with planes of this width. Never fails.
+    /// Expands a key of 16 or 32 bytes (FIPS 197 section 5.2), for planes of this width. Never fails. The contract doesn't say
+    /// the width.
     pub fn new_with_width(bytes: KeyBytes<'_>, width: Width) -> Result<Key, Unspecified>
         ensures accepted { IsOk result }
         ensures made { IfOk result (λ key. key ≡ key_bytes bytes.entry) }

@@ -48,8 +48,8 @@ pub struct ExpandedKey {
 }
 
 impl ExpandedKey {
-    /// Does the same as `expand`, whose planes have 128 bits, with planes of this width. No byte of a key that was there before
-    /// stays.
+    /// Does the same as `expand`, for planes of this width, which the contract says (`width`). No byte of a key that was there
+    /// before stays.
     pub fn expand_with_width(&mut self, bytes: KeyBytes<'_>, width: Width, work: &mut Work)
         requires { CanAdd work.old 1 0 }
         ensures expanded { IsExpanded self.new }
@@ -233,6 +233,7 @@ impl GcmKey for ExpandedKey {
         }
     }
 
+    // The width isn't a part of the trait's contract.
     fn expand(&mut self, bytes: KeyBytes<'_>, work: &mut Work) {
         self.expand_with_width(bytes, Width::Bits128, work);
     }
