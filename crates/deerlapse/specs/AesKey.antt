@@ -17,12 +17,10 @@ HasRounds key = (10 ≤ key.rounds) × (key.rounds ≤ 14)
 abbrev pub IsKeyOrNone : ExpandedKey → Type 0
 IsKeyOrNone key = HasRounds key → IsExpanded key
 
--- what a call that expands a key from these bytes, for planes of so many bits, returns and leaves: it accepts the lengths of a
--- key, and else leaves zeros
-pub record ExpandsKey (bits : ℕ) (bytes : List ℕ) (result : Bool) (now : ExpandedKey) : Type 0 where
+-- what a call that expands a key from these bytes returns and leaves: it accepts the lengths of a key, and else leaves zeros
+pub record ExpandsKey (bytes : List ℕ) (result : Bool) (now : ExpandedKey) : Type 0 where
   pub accepted : IsTrue result ↔ IsAesKeyLen (length bytes)
   pub made : IsTrue result → IsExpanded now × (bytes_of now ≡ bytes)
-  pub width : IsTrue result → now.width ≡ bits
   pub unused : IsTrue result → HasZerosAfter now
   pub refused : IsFalse result → now ≡ zero_key
 

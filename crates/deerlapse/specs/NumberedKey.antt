@@ -17,13 +17,12 @@ next_nonce numbered = xored_nonce numbered.iv numbered.next
 abbrev pub zero_numbered_key : NumberedKey
 zero_numbered_key = record { key = zero_key; next = 0; limit = 0; iv = replicate 12 0; room = replicate 220 0 }
 
--- what a call that initializes one, for planes of so many bits, returns and leaves: it accepts the lengths of a key and a first
--- number up to the limit, and else changes nothing
-pub record InitializesNumberedKey (bits : ℕ) (bytes iv : List ℕ) (first limit : ℕ) (was : NumberedKey) (result : Bool)
-    (now : NumberedKey) : Type 0 where
+-- what a call that initializes one returns and leaves: it accepts the lengths of a key and a first number up to the limit, and
+-- else changes nothing
+pub record InitializesNumberedKey (bytes iv : List ℕ) (first limit : ℕ) (was : NumberedKey) (result : Bool) (now : NumberedKey)
+    : Type 0 where
   pub accepted : IsTrue result ↔ (IsAesKeyLen (length bytes) × (first ≤ limit))
   pub key : IsTrue result → IsExpanded now.key × (key_of now ≡ bytes)
-  pub width : IsTrue result → now.key.width ≡ bits
   pub unused : IsTrue result → HasZerosAfter now.key
   pub iv_is : IsTrue result → now.iv ≡ iv
   pub numbers : IsTrue result → (now.next ≡ first) × (now.limit ≡ limit)

@@ -30,36 +30,33 @@ secret_of bytes = record { suite = suite_of (length bytes); bytes = bytes }
 abbrev pub quic_secret_of : List ℕ → Version → QuicSecretState
 quic_secret_of bytes version = record { version = version; secret = secret_of bytes }
 
--- a key of these bytes, for planes of so many bits, with this IV
-pub record IsTrafficKey (bits : ℕ) (key : TrafficKey) (bytes iv : List ℕ) : Type 0 where
+-- a key of these bytes with this IV
+pub record IsTrafficKey (key : TrafficKey) (bytes iv : List ℕ) : Type 0 where
   pub expanded : IsExpanded key.key
-  pub width : key.key.width ≡ bits
   pub unused : HasZerosAfter key.key
   pub bytes_are : bytes_of key.key ≡ bytes
   pub iv_is : key.iv ≡ iv
   pub zeros : key.room ≡ replicate 4 0
 
 -- the key that protects the packets of a secret of QUIC (RFC 9001 section 5.1, RFC 9369 section 3.3.2)
-abbrev pub IsPacketKey : ℕ → TrafficKey → QuicSecretState → Type 0
-IsPacketKey bits key s = IsTrafficKey bits key (quic_key s) (quic_iv s)
+abbrev pub IsPacketKey : TrafficKey → QuicSecretState → Type 0
+IsPacketKey key s = IsTrafficKey key (quic_key s) (quic_iv s)
 
 -- the key that masks their headers
-pub record IsHeaderKey (bits : ℕ) (key : ExpandedKey) (s : QuicSecretState) : Type 0 where
+pub record IsHeaderKey (key : ExpandedKey) (s : QuicSecretState) : Type 0 where
   pub expanded : IsExpanded key
-  pub width : key.width ≡ bits
   pub unused : HasZerosAfter key
   pub bytes_are : bytes_of key ≡ quic_header_key s
 
 -- the key that protects the records of a traffic secret (RFC 8446 section 7.3)
-abbrev pub IsRecordKey : ℕ → TrafficKey → SecretState → Type 0
-IsRecordKey bits key s = IsTrafficKey bits key (record_key s) (record_iv s)
+abbrev pub IsRecordKey : TrafficKey → SecretState → Type 0
+IsRecordKey key s = IsTrafficKey key (record_key s) (record_iv s)
 
 -- what a call that initializes a key from its bytes and its IV returns and leaves: it accepts the lengths of a key, and else
 -- changes nothing
-pub record InitializesTrafficKey (bits : ℕ) (bytes iv : List ℕ) (was : TrafficKey) (result : Bool) (now : TrafficKey)
-    : Type 0 where
+pub record InitializesTrafficKey (bytes iv : List ℕ) (was : TrafficKey) (result : Bool) (now : TrafficKey) : Type 0 where
   pub accepted : IsTrue result ↔ IsAesKeyLen (length bytes)
-  pub made : IsTrue result → IsTrafficKey bits now bytes iv
+  pub made : IsTrue result → IsTrafficKey now bytes iv
   pub refused : IsFalse result → now ≡ was
 
 -- the same from a secret of the version with this number, where `IsKey` says which key of the secret
@@ -70,9 +67,9 @@ pub record DerivesQuicKey {Key : Type 0} (IsKey : Key → QuicSecretState → Ty
   pub refused : IsFalse result → now ≡ was
 
 -- the same from a traffic secret
-pub record DerivesRecordKey (bits : ℕ) (secret : List ℕ) (was : TrafficKey) (result : Bool) (now : TrafficKey) : Type 0 where
+pub record DerivesRecordKey (secret : List ℕ) (was : TrafficKey) (result : Bool) (now : TrafficKey) : Type 0 where
   pub accepted : IsTrue result ↔ IsDigestLen (length secret)
-  pub made : IsTrue result → IsRecordKey bits now (secret_of secret)
+  pub made : IsTrue result → IsRecordKey now (secret_of secret)
   pub refused : IsFalse result → now ≡ was
 
 -- one that is wiped: every byte is zero

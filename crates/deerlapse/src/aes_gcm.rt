@@ -5,7 +5,7 @@ ghost use Rattle.aead_ciphers_base.specs.Aes.{aes};
 ghost use Rattle.aead_ciphers.specs.Gcm.{Fits, gcm_encrypted, gcm_tag, OpenedAttached};
 ghost use Rattle.deerlapse.specs.AesKey.{IsAesKeyLen};
 
-use crate::key::{deerlapse_key_open, deerlapse_key_seal, expand};
+use crate::key::{deerlapse_key_open, deerlapse_key_seal, expand, width};
 use aead_ciphers::aead::{MAX_TAG_LEN, NONCE_LEN};
 use aead_ciphers::aes_gcm::GcmKey;
 use aead_ciphers_wide::aes::Width;
@@ -29,29 +29,11 @@ pub extern "C" fn deerlapse_seal(
     ensures tag { IsTrue result → tag.new ≡ gcm_tag (aes key.now) nonce.now aad.now in_out.new }
     ensures refused { IsFalse result → (in_out.new ≡ in_out.old) × (tag.new ≡ tag.old) }
 {
-    seal(key, nonce, aad, in_out, tag, Width::Bits128)
-}
-
-/// Does the same as `deerlapse_seal`, with batches of sixteen blocks on planes of 256 bits.
-#[unsafe(no_mangle)]
-pub extern "C" fn deerlapse_seal_256(
-    key: &[u8],
-    nonce: &[u8; NONCE_LEN],
-    aad: &[u8],
-    in_out: &mut [u8],
-    tag: &mut [u8; MAX_TAG_LEN],
-) -> bool
-    ensures accepted { IsTrue result
-        ↔ (IsAesKeyLen (length key.now) × Fits (length aad.now) (length in_out.old)) }
-    ensures ciphertext { IsTrue result → in_out.new ≡ gcm_encrypted (aes key.now) nonce.now in_out.old }
-    ensures tag { IsTrue result → tag.new ≡ gcm_tag (aes key.now) nonce.now aad.now in_out.new }
-    ensures refused { IsFalse result → (in_out.new ≡ in_out.old) × (tag.new ≡ tag.old) }
-{
-    seal(key, nonce, aad, in_out, tag, Width::Bits256)
+    seal(key, nonce, aad, in_out, tag, width())
 }
 
 /// Encrypts in place, with batches on planes of this width.
-fn seal(
+pub(crate) fn seal(
     key: &[u8],
     nonce: &[u8; NONCE_LEN],
     aad: &[u8],
@@ -93,47 +75,11 @@ pub extern "C" fn deerlapse_open(
     ensures refused { IsFalse result
         → (in_out.new ≡ in_out.old) × (plaintext_len.new ≡ plaintext_len.old) }
 {
-    open(
-        key,
-        nonce,
-        aad,
-        in_out,
-        start,
-        plaintext_len,
-        Width::Bits128,
-    )
-}
-
-/// Does the same as `deerlapse_open`, with batches of sixteen blocks on planes of 256 bits.
-#[unsafe(no_mangle)]
-pub extern "C" fn deerlapse_open_256(
-    key: &[u8],
-    nonce: &[u8; NONCE_LEN],
-    aad: &[u8],
-    in_out: &mut [u8],
-    start: usize,
-    plaintext_len: &mut usize,
-) -> bool
-    ensures key_len { IsTrue result → IsAesKeyLen (length key.now) }
-    ensures opened { IsAesKeyLen (length key.now)
-        → OpenedAttached (aes key.now) nonce.now aad.now start in_out.old result in_out.new }
-    ensures count { IsTrue result → plaintext_len.new ≡ length in_out.old - 16 - start }
-    ensures refused { IsFalse result
-        → (in_out.new ≡ in_out.old) × (plaintext_len.new ≡ plaintext_len.old) }
-{
-    open(
-        key,
-        nonce,
-        aad,
-        in_out,
-        start,
-        plaintext_len,
-        Width::Bits256,
-    )
+    open(key, nonce, aad, in_out, start, plaintext_len, width())
 }
 
 /// Opens, with batches on planes of this width.
-fn open(
+pub(crate) fn open(
     key: &[u8],
     nonce: &[u8; NONCE_LEN],
     aad: &[u8],

@@ -25,27 +25,28 @@ pub(crate) fn has_rounds(key: &ExpandedKey) -> bool
     key.rounds >= 10 && key.rounds <= 14
 }
 
+/// Returns the width of the planes of every key that is expanded here. No result depends on it, so there is no contract, and
+/// the calls' contracts hold for either. This is that of processors whose vectors have 128 bits: in the assembly for others,
+/// `tools/dist` has the number of the other width in its place.
+#[inline(never)]
+pub(crate) fn width() -> Width {
+    Width::Bits128
+}
+
 /// Expands a key once, for the calls that take an expanded key. The previous bytes of `key` are not read.
 ///
 /// Returns false if `bytes` does not have 16 or 32 bytes, and every byte of `key` is then zero.
 #[unsafe(no_mangle)]
 pub extern "C" fn deerlapse_key_init(key: &mut ExpandedKey, bytes: &[u8]) -> bool
-    ensures { ExpandsKey 128 bytes.now result key.new }
+    ensures { ExpandsKey bytes.now result key.new }
 {
-    expand(key, bytes, Width::Bits128)
-}
-
-/// Does the same as `deerlapse_key_init`, for batches of sixteen blocks on planes of 256 bits.
-#[unsafe(no_mangle)]
-pub extern "C" fn deerlapse_key_init_256(key: &mut ExpandedKey, bytes: &[u8]) -> bool
-    ensures { ExpandsKey 256 bytes.now result key.new }
-{
-    expand(key, bytes, Width::Bits256)
+    expand(key, bytes, width())
 }
 
 /// Expands a key whose batches take planes of this width.
 pub(crate) fn expand(key: &mut ExpandedKey, bytes: &[u8], width: Width) -> bool
-    ensures { ExpandsKey (width_bits width) bytes.now result key.new }
+    ensures expands { ExpandsKey bytes.now result key.new }
+    ensures width { IsTrue result → key.new.width ≡ width_bits width }
 {
     match KeyBytes::from_slice(bytes) {
         Ok(bytes) => {

@@ -1,7 +1,7 @@
 //! The library's calls for C, C++ and plain Rust: a static library, with the header `include/deerlapse.h`.
 //!
-//! A function that expands a key is there twice: for AES on planes of 128 bits, and with `_256` after its name on planes of 256
-//! bits. The header has one name for both, which `tools/dist` gives to one of them in the assembly for a processor.
+//! The planes of every key have the width that `key::width` returns, which is the only thing in which the assembly for one
+//! processor and that for another differ in source. A key of the other width works just as well.
 //!
 //! A slice is a pointer and then a length in C. No call allocates memory or keeps a pointer. A call that returns false leaves
 //! every byte unchanged, except that `deerlapse_key_init` then zeroes the key.

@@ -1,6 +1,6 @@
 //! A key with an IV and the numbers of its messages, each with its own nonce (RFC 8446 section 5.3, RFC 9001 section 5.3).
 
-ghost use Rattle.std.specs.Prelude.{◌≡◌};
+ghost use Rattle.std.specs.Prelude.{◌≡◌, IsTrue};
 ghost use Rattle.aead_ciphers.specs.Counting.{xored_nonce};
 ghost use Rattle.aead_ciphers_wide.specs.Width.{width_bits};
 ghost use Rattle.deerlapse.specs.NumberedKey.{InitializesNumberedKey, zero_numbered_key};
@@ -45,7 +45,8 @@ pub(crate) fn fill(
     limit: u64,
     width: Width,
 ) -> bool
-    ensures { InitializesNumberedKey (width_bits width) key.now iv.now first limit numbered.old result numbered.new }
+    ensures initializes { InitializesNumberedKey key.now iv.now first limit numbered.old result numbered.new }
+    ensures width { IsTrue result → numbered.new.key.width ≡ width_bits width }
 {
     let Ok(key) = KeyBytes::from_slice(key) else {
         return false

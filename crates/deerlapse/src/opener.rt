@@ -7,10 +7,9 @@ ghost use Rattle.aead_ciphers.specs.Gcm.{OpenedAttached};
 ghost use Rattle.deerlapse.specs.AesKey.{HasRounds, IsKeyOrNone};
 ghost use Rattle.deerlapse.specs.NumberedKey.{InitializesNumberedKey, key_of, next_nonce, zero_numbered_key};
 
-use crate::key::deerlapse_key_open;
+use crate::key::{deerlapse_key_open, width};
 use crate::numbered_key::{NumberedKey, fill, wipe};
 use aead_ciphers::aead::{NONCE_LEN, nonce_of};
-use aead_ciphers_wide::aes::Width;
 
 /// Initializes an opener whose first message has the number `first`. Its previous bytes are not read.
 ///
@@ -23,23 +22,9 @@ pub extern "C" fn deerlapse_opener_init(
     first: u64,
     limit: u64,
 ) -> bool
-    ensures { InitializesNumberedKey 128 key.now iv.now first limit opener.old result opener.new }
+    ensures { InitializesNumberedKey key.now iv.now first limit opener.old result opener.new }
 {
-    fill(opener, key, iv, first, limit, Width::Bits128)
-}
-
-/// Does the same as `deerlapse_opener_init`, for batches of sixteen blocks on planes of 256 bits.
-#[unsafe(no_mangle)]
-pub extern "C" fn deerlapse_opener_init_256(
-    opener: &mut NumberedKey,
-    key: &[u8],
-    iv: &[u8; NONCE_LEN],
-    first: u64,
-    limit: u64,
-) -> bool
-    ensures { InitializesNumberedKey 256 key.now iv.now first limit opener.old result opener.new }
-{
-    fill(opener, key, iv, first, limit, Width::Bits256)
+    fill(opener, key, iv, first, limit, width())
 }
 
 /// Returns the number of the next message.

@@ -10,7 +10,7 @@ ghost use Rattle.key_derivation.specs.Quic.{client_initial_secret, next_quic_sec
 ghost use Rattle.deerlapse.specs.AesKey.{HasRounds, IsKeyOrNone};
 ghost use Rattle.deerlapse.specs.TrafficKey.{DerivesQuicKey, InitializesTrafficKey, IsDigestLen, IsHeaderKey, IsPacketKey, quic_secret_of, zero_traffic_key};
 
-use crate::key::{deerlapse_key_open, deerlapse_key_seal};
+use crate::key::{deerlapse_key_open, deerlapse_key_seal, width};
 use crate::traffic_key::{SHA_256_LEN, TrafficKey, fill, secret_of, wipe};
 use aead_ciphers::aead::{MAX_TAG_LEN, NONCE_LEN, nonce_of};
 use aead_ciphers_base::aes::{KeyBytes, Work};
@@ -30,21 +30,9 @@ pub extern "C" fn deerlapse_quic_key_init(
     bytes: &[u8],
     iv: &[u8; NONCE_LEN],
 ) -> bool
-    ensures { InitializesTrafficKey 128 bytes.now iv.now key.old result key.new }
+    ensures { InitializesTrafficKey bytes.now iv.now key.old result key.new }
 {
-    fill(key, bytes, iv, Width::Bits128)
-}
-
-/// Does the same as `deerlapse_quic_key_init`, for batches of sixteen blocks on planes of 256 bits.
-#[unsafe(no_mangle)]
-pub extern "C" fn deerlapse_quic_key_init_256(
-    key: &mut TrafficKey,
-    bytes: &[u8],
-    iv: &[u8; NONCE_LEN],
-) -> bool
-    ensures { InitializesTrafficKey 256 bytes.now iv.now key.old result key.new }
-{
-    fill(key, bytes, iv, Width::Bits256)
+    fill(key, bytes, iv, width())
 }
 
 /// Initializes the key and the IV for the packets of a secret, in the version with this number. Its previous bytes are not read.
@@ -56,26 +44,20 @@ pub extern "C" fn deerlapse_quic_key_from_secret(
     version: u32,
     secret: &[u8],
 ) -> bool
-    ensures { DerivesQuicKey (IsPacketKey 128) version secret.now key.old result key.new }
+    ensures { DerivesQuicKey IsPacketKey version secret.now key.old result key.new }
 {
-    fill_from_secret(key, version, secret, Width::Bits128)
-}
-
-/// Does the same as `deerlapse_quic_key_from_secret`, for batches of sixteen blocks on planes of 256 bits.
-#[unsafe(no_mangle)]
-pub extern "C" fn deerlapse_quic_key_from_secret_256(
-    key: &mut TrafficKey,
-    version: u32,
-    secret: &[u8],
-) -> bool
-    ensures { DerivesQuicKey (IsPacketKey 256) version secret.now key.old result key.new }
-{
-    fill_from_secret(key, version, secret, Width::Bits256)
+    fill_from_secret(key, version, secret, width())
 }
 
 /// Initializes the key and the IV of a secret, for planes of this width.
-fn fill_from_secret(key: &mut TrafficKey, version: u32, secret: &[u8], width: Width) -> bool
-    ensures { DerivesQuicKey (IsPacketKey (width_bits width)) version secret.now key.old result key.new }
+pub(crate) fn fill_from_secret(
+    key: &mut TrafficKey,
+    version: u32,
+    secret: &[u8],
+    width: Width,
+) -> bool
+    ensures derives { DerivesQuicKey IsPacketKey version secret.now key.old result key.new }
+    ensures width { IsTrue result → key.new.key.width ≡ width_bits width }
 {
     let Some(version) = Version::from_number(version) else {
         return false
@@ -96,26 +78,20 @@ pub extern "C" fn deerlapse_quic_header_key_from_secret(
     version: u32,
     secret: &[u8],
 ) -> bool
-    ensures { DerivesQuicKey (IsHeaderKey 128) version secret.now key.old result key.new }
+    ensures { DerivesQuicKey IsHeaderKey version secret.now key.old result key.new }
 {
-    expand_header_key(key, version, secret, Width::Bits128)
-}
-
-/// Does the same as `deerlapse_quic_header_key_from_secret`, for batches of sixteen blocks on planes of 256 bits.
-#[unsafe(no_mangle)]
-pub extern "C" fn deerlapse_quic_header_key_from_secret_256(
-    key: &mut ExpandedKey,
-    version: u32,
-    secret: &[u8],
-) -> bool
-    ensures { DerivesQuicKey (IsHeaderKey 256) version secret.now key.old result key.new }
-{
-    expand_header_key(key, version, secret, Width::Bits256)
+    expand_header_key(key, version, secret, width())
 }
 
 /// Expands the header key of a secret, for planes of this width.
-fn expand_header_key(key: &mut ExpandedKey, version: u32, secret: &[u8], width: Width) -> bool
-    ensures { DerivesQuicKey (IsHeaderKey (width_bits width)) version secret.now key.old result key.new }
+pub(crate) fn expand_header_key(
+    key: &mut ExpandedKey,
+    version: u32,
+    secret: &[u8],
+    width: Width,
+) -> bool
+    ensures derives { DerivesQuicKey IsHeaderKey version secret.now key.old result key.new }
+    ensures width { IsTrue result → key.new.width ≡ width_bits width }
 {
     let Some(version) = Version::from_number(version) else {
         return false

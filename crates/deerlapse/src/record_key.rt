@@ -11,7 +11,7 @@ ghost use Rattle.records.specs.Record.{header, plaintext};
 ghost use Rattle.deerlapse.specs.AesKey.{HasRounds, IsKeyOrNone};
 ghost use Rattle.deerlapse.specs.TrafficKey.{DerivesRecordKey, InitializesTrafficKey, IsDigestLen, IsInner, IsPayloadLen, secret_of, zero_traffic_key};
 
-use crate::key::{deerlapse_key_open, deerlapse_key_seal, has_rounds};
+use crate::key::{deerlapse_key_open, deerlapse_key_seal, has_rounds, width};
 use crate::traffic_key::{TrafficKey, fill, secret_of, wipe};
 use aead_ciphers::aead::{MAX_TAG_LEN, NONCE_LEN, nonce_of};
 use aead_ciphers_wide::aes::Width;
@@ -26,21 +26,9 @@ pub extern "C" fn deerlapse_record_key_init(
     bytes: &[u8],
     iv: &[u8; NONCE_LEN],
 ) -> bool
-    ensures { InitializesTrafficKey 128 bytes.now iv.now key.old result key.new }
+    ensures { InitializesTrafficKey bytes.now iv.now key.old result key.new }
 {
-    fill(key, bytes, iv, Width::Bits128)
-}
-
-/// Does the same as `deerlapse_record_key_init`, for batches of sixteen blocks on planes of 256 bits.
-#[unsafe(no_mangle)]
-pub extern "C" fn deerlapse_record_key_init_256(
-    key: &mut TrafficKey,
-    bytes: &[u8],
-    iv: &[u8; NONCE_LEN],
-) -> bool
-    ensures { InitializesTrafficKey 256 bytes.now iv.now key.old result key.new }
-{
-    fill(key, bytes, iv, Width::Bits256)
+    fill(key, bytes, iv, width())
 }
 
 /// Initializes the key and the IV of a traffic secret (RFC 8446 section 7.3). Its previous bytes are not read.
@@ -48,22 +36,15 @@ pub extern "C" fn deerlapse_record_key_init_256(
 /// Returns false if the secret does not have 32 or 48 bytes.
 #[unsafe(no_mangle)]
 pub extern "C" fn deerlapse_record_key_from_secret(key: &mut TrafficKey, secret: &[u8]) -> bool
-    ensures { DerivesRecordKey 128 secret.now key.old result key.new }
+    ensures { DerivesRecordKey secret.now key.old result key.new }
 {
-    fill_from_secret(key, secret, Width::Bits128)
-}
-
-/// Does the same as `deerlapse_record_key_from_secret`, for batches of sixteen blocks on planes of 256 bits.
-#[unsafe(no_mangle)]
-pub extern "C" fn deerlapse_record_key_from_secret_256(key: &mut TrafficKey, secret: &[u8]) -> bool
-    ensures { DerivesRecordKey 256 secret.now key.old result key.new }
-{
-    fill_from_secret(key, secret, Width::Bits256)
+    fill_from_secret(key, secret, width())
 }
 
 /// Initializes the key and the IV of a secret, for planes of this width.
-fn fill_from_secret(key: &mut TrafficKey, secret: &[u8], width: Width) -> bool
-    ensures { DerivesRecordKey (width_bits width) secret.now key.old result key.new }
+pub(crate) fn fill_from_secret(key: &mut TrafficKey, secret: &[u8], width: Width) -> bool
+    ensures derives { DerivesRecordKey secret.now key.old result key.new }
+    ensures width { IsTrue result → key.new.key.width ≡ width_bits width }
 {
     let Some(secret) = secret_of(secret) else {
         return false

@@ -6,10 +6,9 @@ ghost use Rattle.aead_ciphers.specs.Gcm.{Fits, gcm_encrypted, gcm_tag};
 ghost use Rattle.deerlapse.specs.AesKey.{HasRounds, IsKeyOrNone};
 ghost use Rattle.deerlapse.specs.NumberedKey.{InitializesNumberedKey, key_of, next_nonce, zero_numbered_key};
 
-use crate::key::deerlapse_key_seal;
+use crate::key::{deerlapse_key_seal, width};
 use crate::numbered_key::{NumberedKey, fill, wipe};
 use aead_ciphers::aead::{MAX_TAG_LEN, NONCE_LEN, nonce_of};
-use aead_ciphers_wide::aes::Width;
 
 /// Initializes a sealer whose first message gets the number `first`. Its previous bytes are not read. A copy of it would use
 /// its nonces again.
@@ -23,23 +22,9 @@ pub extern "C" fn deerlapse_sealer_init(
     first: u64,
     limit: u64,
 ) -> bool
-    ensures { InitializesNumberedKey 128 key.now iv.now first limit sealer.old result sealer.new }
+    ensures { InitializesNumberedKey key.now iv.now first limit sealer.old result sealer.new }
 {
-    fill(sealer, key, iv, first, limit, Width::Bits128)
-}
-
-/// Does the same as `deerlapse_sealer_init`, for batches of sixteen blocks on planes of 256 bits.
-#[unsafe(no_mangle)]
-pub extern "C" fn deerlapse_sealer_init_256(
-    sealer: &mut NumberedKey,
-    key: &[u8],
-    iv: &[u8; NONCE_LEN],
-    first: u64,
-    limit: u64,
-) -> bool
-    ensures { InitializesNumberedKey 256 key.now iv.now first limit sealer.old result sealer.new }
-{
-    fill(sealer, key, iv, first, limit, Width::Bits256)
+    fill(sealer, key, iv, first, limit, width())
 }
 
 /// Returns the number of the next message.

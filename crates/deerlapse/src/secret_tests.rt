@@ -8,19 +8,17 @@ use crate::hkdf::{
 };
 use crate::masks::deerlapse_key_mask;
 use crate::quic_key::{
-    deerlapse_quic_header_key_from_secret, deerlapse_quic_header_key_from_secret_256,
-    deerlapse_quic_initial_secrets, deerlapse_quic_key_from_secret,
-    deerlapse_quic_key_from_secret_256, deerlapse_quic_key_init, deerlapse_quic_key_init_256,
-    deerlapse_quic_key_open, deerlapse_quic_key_seal, deerlapse_quic_key_wipe,
-    deerlapse_quic_next_secret,
+    self, deerlapse_quic_header_key_from_secret, deerlapse_quic_initial_secrets,
+    deerlapse_quic_key_from_secret, deerlapse_quic_key_init, deerlapse_quic_key_open,
+    deerlapse_quic_key_seal, deerlapse_quic_key_wipe, deerlapse_quic_next_secret,
+    expand_header_key,
 };
 use crate::record_key::{
-    deerlapse_record_key_from_secret, deerlapse_record_key_from_secret_256,
-    deerlapse_record_key_init, deerlapse_record_key_init_256, deerlapse_record_key_open,
+    self, deerlapse_record_key_from_secret, deerlapse_record_key_init, deerlapse_record_key_open,
     deerlapse_record_key_seal, deerlapse_record_key_wipe, deerlapse_tls_next_secret,
 };
 use crate::tests::{accepted, equal, is_zero, same};
-use crate::traffic_key::TrafficKey;
+use crate::traffic_key::{TrafficKey, fill};
 use aead_ciphers::aes_gcm::GcmKey;
 use aead_ciphers_wide::aes::Width;
 use aead_ciphers_wide::aes_gcm::ExpandedKey;
@@ -110,7 +108,7 @@ fn masks_header(rt: &impl Abort, key: &ExpandedKey, row: &Packet) -> Result<(), 
 fn protects(rt: &impl Abort, version: u32, secret: &[u8], row: &Packet) -> Result<(), Fail> {
     let (mut key, mut wider, mut of_bytes) = (no_key(), no_key(), no_key());
     if !deerlapse_quic_key_from_secret(&mut key, version, secret)
-        || !deerlapse_quic_key_from_secret_256(&mut wider, version, secret)
+        || !quic_key::fill_from_secret(&mut wider, version, secret, Width::Bits256)
         || !deerlapse_quic_key_init(&mut of_bytes, &row.key, &row.iv)
     {
         return Err("a key".into());
@@ -119,7 +117,7 @@ fn protects(rt: &impl Abort, version: u32, secret: &[u8], row: &Packet) -> Resul
     seals_packet(rt, &key, row)?;
     seals_packet(rt, &wider, row)?;
     seals_packet(rt, &of_bytes, row)?;
-    if !deerlapse_quic_key_init_256(&mut of_bytes, &row.key, &row.iv) {
+    if !fill(&mut of_bytes, &row.key, &row.iv, Width::Bits256) {
         return Err("a key".into());
     }
     seals_packet(rt, &of_bytes, row)?;
@@ -132,7 +130,7 @@ fn protects(rt: &impl Abort, version: u32, secret: &[u8], row: &Packet) -> Resul
 fn masks(rt: &impl Abort, version: u32, secret: &[u8], row: &Packet) -> Result<(), Fail> {
     let (mut key, mut wider) = (ExpandedKey::zeros(), ExpandedKey::zeros());
     if !deerlapse_quic_header_key_from_secret(&mut key, version, secret)
-        || !deerlapse_quic_header_key_from_secret_256(&mut wider, version, secret)
+        || !expand_header_key(&mut wider, version, secret, Width::Bits256)
     {
         return Err("a header key".into());
     }
@@ -235,7 +233,7 @@ fn seals_record(rt: &impl Abort, key: &TrafficKey, row: &Record) -> Result<(), F
 fn protects_record(rt: &impl Abort, row: &Record) -> Result<(), Fail> {
     let (mut key, mut wider) = (no_key(), no_key());
     if !deerlapse_record_key_from_secret(&mut key, &row.secret)
-        || !deerlapse_record_key_from_secret_256(&mut wider, &row.secret)
+        || !record_key::fill_from_secret(&mut wider, &row.secret, Width::Bits256)
     {
         return Err("a key".into());
     }
@@ -279,7 +277,7 @@ fn opens_by(rt: &impl Abort, key: &TrafficKey, width: u32)
 fn padded(rt: HostRuntime) -> Result<(), Fail> {
     let (mut key, mut wider) = (no_key(), no_key());
     if !deerlapse_record_key_init(&mut key, &[3; 32], &[5; 12])
-        || !deerlapse_record_key_init_256(&mut wider, &[3; 32], &[5; 12])
+        || !fill(&mut wider, &[3; 32], &[5; 12], Width::Bits256)
     {
         return Err("a key".into());
     }

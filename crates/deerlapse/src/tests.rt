@@ -2,16 +2,16 @@
 
 ghost use Rattle.deerlapse.specs.AesKey.{IsKeyOrNone};
 
-use crate::aes_gcm::{deerlapse_open, deerlapse_open_256, deerlapse_seal, deerlapse_seal_256};
+use crate::aes_gcm::{deerlapse_open, deerlapse_seal, open, seal};
 use crate::chacha20::deerlapse_chacha20;
 use crate::key::{
-    deerlapse_key_init, deerlapse_key_init_256, deerlapse_key_open,
-    deerlapse_key_open_separate_tag, deerlapse_key_seal, deerlapse_key_wipe,
+    deerlapse_key_init, deerlapse_key_open, deerlapse_key_open_separate_tag, deerlapse_key_seal,
+    deerlapse_key_wipe, expand,
 };
 use crate::masks::{deerlapse_key_mask, deerlapse_mask_aes, deerlapse_mask_chacha20};
-use crate::numbered_key::{NumberedKey, deerlapse_nonce};
+use crate::numbered_key::{NumberedKey, deerlapse_nonce, fill};
 use crate::opener::{
-    deerlapse_opener_init, deerlapse_opener_init_256, deerlapse_opener_next, deerlapse_opener_open,
+    deerlapse_opener_init, deerlapse_opener_next, deerlapse_opener_open,
     deerlapse_opener_open_number, deerlapse_opener_wipe,
 };
 use crate::out_of_place::{
@@ -20,8 +20,7 @@ use crate::out_of_place::{
 };
 use crate::pieces::{deerlapse_key_begin, deerlapse_key_finish, deerlapse_key_update};
 use crate::sealer::{
-    deerlapse_sealer_init, deerlapse_sealer_init_256, deerlapse_sealer_next, deerlapse_sealer_seal,
-    deerlapse_sealer_wipe,
+    deerlapse_sealer_init, deerlapse_sealer_next, deerlapse_sealer_seal, deerlapse_sealer_wipe,
 };
 use aead_ciphers::aes_gcm::GcmKey;
 use aead_ciphers_wide::aes::Width;
@@ -105,7 +104,7 @@ fn seals_and_opens(
     let mut tag = [0; 16];
     let sealed = match sealing {
         Width::Bits128 => deerlapse_seal(key, nonce, aad, &mut bytes, &mut tag),
-        Width::Bits256 => deerlapse_seal_256(key, nonce, aad, &mut bytes, &mut tag),
+        Width::Bits256 => seal(key, nonce, aad, &mut bytes, &mut tag, sealing),
     };
     is_sealed(rt, case, sealed, &bytes, &tag);
 
@@ -114,7 +113,7 @@ fn seals_and_opens(
     let mut len = 0;
     let opened = match opening {
         Width::Bits128 => deerlapse_open(key, nonce, aad, &mut bytes, 3, &mut len),
-        Width::Bits256 => deerlapse_open_256(key, nonce, aad, &mut bytes, 3, &mut len),
+        Width::Bits256 => open(key, nonce, aad, &mut bytes, 3, &mut len, opening),
     };
     is_opened(rt, case, opened, &bytes, len)
 }
@@ -123,7 +122,7 @@ fn seals_and_opens(
 fn by_both_keys(rt: &impl Abort, alloc: Global, case: &Case) -> Result<(), Fail> {
     let mut key = ExpandedKey::zeros();
     let mut wider = ExpandedKey::zeros();
-    if !deerlapse_key_init(&mut key, &case.key) || !deerlapse_key_init_256(&mut wider, &case.key) {
+    if !deerlapse_key_init(&mut key, &case.key) || !expand(&mut wider, &case.key, Width::Bits256) {
         return Err("a key".into());
     }
     equal(rt, &(key.width, wider.width), &(128, 256), case.name);
@@ -257,7 +256,7 @@ fn seals_once(rt: &impl Abort, case: &Case, width: Width) -> Result<(), Fail> {
     let mut sealer = no_numbers();
     let made = match width {
         Width::Bits128 => deerlapse_sealer_init(&mut sealer, &case.key, &case.nonce, 0, 1),
-        Width::Bits256 => deerlapse_sealer_init_256(&mut sealer, &case.key, &case.nonce, 0, 1),
+        Width::Bits256 => fill(&mut sealer, &case.key, &case.nonce, 0, 1, width),
     };
     if !made {
         return Err("a sealer".into());
@@ -319,7 +318,7 @@ fn opens_under_each_width(rt: &impl Abort, case: &Case) -> Result<(), Fail> {
     let mut opener = no_numbers();
     let mut wider = no_numbers();
     if !deerlapse_opener_init(&mut opener, &case.key, &case.nonce, 0, 1)
-        || !deerlapse_opener_init_256(&mut wider, &case.key, &case.nonce, 0, 1)
+        || !fill(&mut wider, &case.key, &case.nonce, 0, 1, Width::Bits256)
     {
         return Err("an opener".into());
     }
@@ -359,7 +358,14 @@ fn long(rt: HostRuntime) -> Result<(), Fail> {
     let mut other_tag = [0; 16];
     accepted(
         &rt,
-        deerlapse_seal_256(&key, &nonce, &aad, &mut wider, &mut other_tag),
+        seal(
+            &key,
+            &nonce,
+            &aad,
+            &mut wider,
+            &mut other_tag,
+            Width::Bits256,
+        ),
         "256 bits",
     );
     same(&rt, &wider, &sealed, "256 bits");
@@ -367,7 +373,7 @@ fn long(rt: HostRuntime) -> Result<(), Fail> {
     sealed.extend_from_slice(&tag)?;
     wider.extend_from_slice(&tag)?;
     let mut len = 0;
-    let opened = deerlapse_open_256(&key, &nonce, &aad, &mut sealed, 0, &mut len)
+    let opened = open(&key, &nonce, &aad, &mut sealed, 0, &mut len, Width::Bits256)
         && deerlapse_open(&key, &nonce, &aad, &mut wider, 0, &mut len);
     accepted(&rt, opened, "the other width");
     for bytes in [&sealed, &wider] {
@@ -396,7 +402,7 @@ fn masks_a_block(rt: &impl Abort, case: &fips_197::Case) {
     is_mask(rt, case, answer, &mask);
 
     let mut mask = [0; 5];
-    let answer = deerlapse_key_init_256(&mut key, &case.key)
+    let answer = expand(&mut key, &case.key, Width::Bits256)
         && deerlapse_key_mask(&key, &case.plaintext, &mut mask);
     is_mask(rt, case, answer, &mask);
 }

@@ -1,6 +1,6 @@
 //! A key with its IV, which protects the packets of QUIC or the records of TLS 1.3 in one direction by their numbers.
 
-ghost use Rattle.std.specs.Prelude.{◌≡◌, ◌↔◌, length, IsSome, IfSome};
+ghost use Rattle.std.specs.Prelude.{◌≡◌, ◌↔◌, length, IsTrue, IsSome, IfSome};
 ghost use Rattle.aead_ciphers_wide.specs.Width.{width_bits};
 ghost use Rattle.deerlapse.specs.TrafficKey.{InitializesTrafficKey, IsDigestLen, secret_of, zero_traffic_key};
 
@@ -39,7 +39,8 @@ pub(crate) const SHA_256_LEN: usize = 32;
 ///
 /// Returns false if the key does not have 16 or 32 bytes.
 pub(crate) fn fill(traffic: &mut TrafficKey, key: &[u8], iv: &[u8; NONCE_LEN], width: Width) -> bool
-    ensures { InitializesTrafficKey (width_bits width) key.now iv.now traffic.old result traffic.new }
+    ensures initializes { InitializesTrafficKey key.now iv.now traffic.old result traffic.new }
+    ensures width { IsTrue result → traffic.new.key.width ≡ width_bits width }
 {
     let Ok(key) = KeyBytes::from_slice(key) else {
         return false
