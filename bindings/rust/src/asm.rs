@@ -1,11 +1,19 @@
 //! The assembly of the library's functions for the program's target.
 
 /// Includes the text in the folder `asm` for which the condition holds, with these options of `global_asm!`.
+///
+/// The texts are those for C. The symbol that is defined before one tells the assembler to give each function the name that
+/// [`ffi`](crate::ffi) calls it by, and to leave out the note that all functions of the object have landing pads for CET or BTI:
+/// rustc's own may be in the same object.
 macro_rules! texts {
     ($($name:literal for $processors:literal ($($option:ident),*) if $condition:meta;)*) => {
         $(
             #[cfg(all(target_pointer_width = "64", target_endian = "little", $condition))]
-            core::arch::global_asm!(include_str!(concat!("../asm/", $name, ".s")), options($($option),*));
+            core::arch::global_asm!(
+                ".set deerlapse_in_rust, 1",
+                include_str!(concat!("../asm/", $name, ".s")),
+                options($($option),*)
+            );
         )*
 
         /// The texts that are included.
