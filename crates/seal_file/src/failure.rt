@@ -1,5 +1,7 @@
 //! Why the program ends early.
 
+use crate::hints::KeyText;
+use crate::name::Name;
 use sealed_file::{FileError, MAX_AAD_LEN};
 use std::{fmt, io};
 
@@ -19,8 +21,8 @@ pub enum Place {
 pub enum Failure {
     /// The command line is not one that the program understands.
     Use(anyhow::Error),
-    /// The key file does not have 32 bytes.
-    KeyLength,
+    /// The key file does not have 32 bytes, but the key as text, if it is known.
+    KeyLength(Option<KeyText>),
     /// The passphrase is empty or too long.
     PassphraseLength,
     /// OUT or the key file to be created exists, and `--force` is not given.
@@ -63,7 +65,7 @@ impl Failure {
     pub fn place(&self) -> Option<Place> {
         match self {
             Failure::Use(_) | Failure::AadTooLong => None,
-            Failure::KeyLength => Some(Place::KeyFile),
+            Failure::KeyLength(_) => Some(Place::KeyFile),
             Failure::PassphraseLength => Some(Place::PassphraseFile),
             Failure::Refused(_) | Failure::FirstRefused(_) => Some(Place::Input),
             Failure::Io(place, _) => Some(*place),
@@ -76,7 +78,10 @@ impl fmt::Display for Failure {
     fn fmt<W: fmt::Write>(&self, f: &mut fmt::Formatter<W>) -> fmt::Result {
         match self {
             Failure::Use(error) => write!(f, "{error}; see --help"),
-            Failure::KeyLength => write!(f, "the key is not 32 bytes long"),
+            Failure::KeyLength(None) => write!(f, "the key is not 32 bytes long"),
+            Failure::KeyLength(Some(text)) => {
+                write!(f, "a key is 32 raw bytes, and this is {text}")
+            }
             Failure::PassphraseLength => {
                 write!(f, "the passphrase is empty, or longer than 4096 bytes")
             }

@@ -3,6 +3,7 @@
 
 mod failure;
 mod files;
+mod hints;
 mod name;
 mod options;
 mod output;
@@ -11,10 +12,12 @@ mod range;
 
 ghost use Rattle.std.specs.Prelude.{◌≤◌, length};
 
+use anyhow::anyhow;
 use failure::{Failure, Place};
+use hints::{KeyText, MAX_KEY_TEXT_LEN, Oddity};
 use name::Name;
 use options::{Action, Conversion, HELP, KeyFile, Request, SecretFile, VERSION};
-use output::{Access, Inputs, NUMBER_LEN, NewFile, check_free, check_target};
+use output::{Access, Inputs, NUMBER_LEN, NewFile, check_key_target, check_target};
 use progress::Source;
 use range::{Range, RangeWriter};
 use sealed_file::{
@@ -448,8 +451,7 @@ fn warn_of_readable_secret(
     };
 }
 
-/// Returns the passphrase in a file, or on standard input: its bytes without one newline at their end. Warns if a carriage return
-/// comes before that.
+/// Returns the passphrase in a file, or on standard input: its bytes without one newline at their end. Warns of what is odd in it.
 fn read_passphrase(
     rt: &HostRuntime,
     name: Option<&Name>,
@@ -459,8 +461,10 @@ fn read_passphrase(
     warn_of_readable_secret(rt, name, metadata.as_ref(), "passphrase");
     if bytes.last() == Some(&b'\n') {
         bytes.pop();
-        if bytes.last() == Some(&b'\r') {
-            let _ = eprintln!(rt; "seal_file: warning: the passphrase ends with a carriage return");
+    }
+    for oddity in Oddity::ALL {
+        if oddity.is_in(&bytes) {
+            let _ = eprintln!(rt; "seal_file: warning: the passphrase {oddity}");
         }
     }
     if bytes.is_empty() || bytes.len() > MAX_PASSPHRASE_LEN {
@@ -472,8 +476,8 @@ fn read_passphrase(
 /// Returns the key in a file of 32 bytes, or on standard input, and the metadata of the file.
 fn read_key(rt: &HostRuntime, key_file: &KeyFile) -> Result<(FileKey, Option<Metadata>), Failure> {
     let name = key_file.name.as_ref();
-    let (bytes, metadata) = with_place(Place::KeyFile, read_front(rt, name, KEY_LEN + 1))?;
+    let (bytes, metadata) = with_place(Place::KeyFile, read_front(rt, name, MAX_KEY_TEXT_LEN))?;
     warn_of_readable_secret(rt, name, metadata.as_ref(), "key");
-    let key = FileKey::new(&bytes).map_err(|_| Failure::KeyLength)?;
+    let key = FileKey::new(&bytes).map_err(|_| Failure::KeyLength(KeyText::of(&bytes)))?;
     Ok((key, metadata))
 }

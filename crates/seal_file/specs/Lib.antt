@@ -1,0 +1,3 @@
+pub mod KeyText
+pub mod Name
+pub mod Oddity

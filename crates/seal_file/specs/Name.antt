@@ -1,0 +1,7 @@
+-- Names of files
+
+use Rattle.std.specs.Prelude.{◌≡◌, ◌-◌, ◌<◌, ℕ, List, Some, Contains, drop, slice_get}
+
+-- This many bytes of a name are its folder's: they end with its last `/`, if it has one (POSIX.1-2017, section 3.271, pathname).
+abbrev pub IsFolderLen : List ℕ → ℕ → Type 0
+IsFolderLen name n = (0 < n → slice_get name (n - 1) ≡ Some 47) × ¬ Contains (drop n name) 47
