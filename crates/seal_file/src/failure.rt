@@ -33,8 +33,12 @@ pub enum Failure {
     SecretFile,
     /// OUT exists, and it is not known whether it is IN or the file with the key or the passphrase.
     Unidentified,
-    /// OUT exists, and is not a regular file.
+    /// OUT exists, and is a folder.
+    Folder,
+    /// OUT is a device, a pipe or a socket.
     NotRegular,
+    /// OUT is in /proc, or is a link that leads there.
+    InProc,
     /// The AAD has more than `MAX_AAD_LEN` bytes.
     AadTooLong,
     /// A sealed file would be written to a terminal.
@@ -94,7 +98,19 @@ impl fmt::Display for Failure {
                     "this may be the file on standard input, which cannot be identified"
                 )
             }
-            Failure::NotRegular => write!(f, "not a regular file"),
+            Failure::Folder => write!(f, "not a regular file, but a folder"),
+            Failure::NotRegular => {
+                write!(
+                    f,
+                    "not a regular file: give -o -, and redirect standard output to it"
+                )
+            }
+            Failure::InProc => {
+                write!(
+                    f,
+                    "in /proc, or a link that leads there: give -o -, and redirect standard output to it"
+                )
+            }
             Failure::AadTooLong => write!(f, "--aad takes at most {MAX_AAD_LEN} bytes"),
             Failure::Terminal => {
                 write!(

@@ -6,6 +6,12 @@ use std::io::{self, ErrorKind};
 use std::os::unix::fs::{MetadataExt, OpenOptionsExt, PermissionsExt};
 use std::str;
 
+/// The mode of a file that its owner alone reads and writes.
+pub const OWNER_ALONE: u32 = 0o600;
+
+/// The most links that Linux follows one after another.
+const MAX_LINKS: usize = 40;
+
 /// Returns whether the file's group or all users may read it.
 pub fn others_may_read(metadata: &Metadata) -> bool {
     metadata.permissions().mode() & 0o044 != 0
@@ -73,6 +79,33 @@ pub fn exists(rt: &HostRuntime, name: &Name) -> io::Result<bool> {
         Err(error) if error.kind() == ErrorKind::NotFound => Ok(false),
         Err(error) => Err(error),
     }
+}
+
+/// Returns whether the name is that of a file in the kernel's /proc, mounted or not.
+fn is_in_proc(rt: &HostRuntime, name: &Name) -> io::Result<bool> {
+    if name.as_bytes().starts_with(b"/proc/") {
+        return Ok(true);
+    }
+    let folder = name.folder(rt.alloc())?;
+    match (fs::metadata(rt, "/proc/self"), metadata_of(rt, &folder)) {
+        (Ok(proc), Ok(folder)) => Ok(proc.dev() == folder.dev()),
+        _ => Ok(false),
+    }
+}
+
+/// Returns whether the name is that of a file in /proc, or of a link that leads there, such as /dev/stderr.
+pub fn leads_into_proc(rt: &HostRuntime, name: &Name) -> io::Result<bool> {
+    let mut name = name.clone()?;
+    for _ in 0..=MAX_LINKS {
+        if is_in_proc(rt, &name)? {
+            return Ok(true);
+        }
+        let Ok(text) = fs::read_link(rt, text_of(&name)?) else {
+            break;
+        };
+        name = name.target(rt.alloc(), text.into_os_string().as_bytes())?;
+    }
+    Ok(false)
 }
 
 /// Renames a file, and replaces any file that has the new name.

@@ -110,7 +110,7 @@ fn keygen(rt: &HostRuntime, name: Option<&Name>) -> Result<(), Failure> {
         with_place(Place::Output, output.write_all(&key))?;
         return with_place(Place::Output, output.flush());
     };
-    check_free(rt, name)?;
+    check_key_target(rt, name)?;
     let mut file = new_file(rt, name, Access::Owner)?;
     let written = with_place(Place::Output, file.write_all(&key));
     file.finish(rt, name, written, false)
@@ -163,7 +163,14 @@ fn inspect(
         Err(error) => return Err(Failure::Refused(error)),
     }
     if let Some(key_file) = key_file {
-        let (key, _) = read_key(rt, key_file)?;
+        let (key, of_key) = read_key(rt, key_file)?;
+        let inputs = Inputs {
+            input: metadata,
+            secret: of_key.as_ref(),
+        };
+        if inputs.are_one_stream(name.is_some() && key_file.name.is_some()) {
+            return Err(one_stream(name, "FILE", "key"));
+        }
         if !key.is_of(&header) {
             return Err(Failure::Refused(FileError::WrongKey));
         }
@@ -218,19 +225,32 @@ fn convert<'r>(rt: &'r HostRuntime, conversion: &'r Conversion) -> Result<(), Fa
         Some(file) => file.metadata().ok(),
         None => files::stdin_metadata(rt).ok(),
     };
+    let inputs = Inputs {
+        input: metadata.as_ref(),
+        secret: of_secret.as_ref(),
+    };
+    if inputs.are_one_stream(file.is_some() && conversion.secret_file.name().is_some()) {
+        let what = conversion.secret_file.kind_name();
+        return Err(one_stream(conversion.input.as_ref(), "IN", what));
+    }
     let job = Job {
         rt,
         conversion,
         secret: &secret,
-        inputs: Inputs {
-            input: metadata.as_ref(),
-            secret: of_secret.as_ref(),
-        },
+        inputs,
     };
     match file {
         Some(file) => job.write(job.input_of(file)),
         None => job.write(Input::Stream(job.source_of(rt.reader()))),
     }
+}
+
+/// The failure that one stream would be two files: IN or FILE, and that with the key or the passphrase.
+fn one_stream(name: Option<&Name>, role: &str, what: &str) -> Failure {
+    Failure::Use(match name {
+        Some(name) => anyhow!("{name} is both {role} and the {what}"),
+        None => anyhow!("standard input is both {role} and the {what}"),
+    })
 }
 
 /// What a file is sealed under.

@@ -1,5 +1,9 @@
 //! Names of files from the command line: bytes that need not be UTF-8.
 
+ghost use Rattle.std.specs.Prelude.{◌≡◌, ◌≤◌, ◌++◌, ◌∷◌, ℕ, [], IfOk, true, false, length, nat_eq, take};
+ghost use Rattle.std.specs.List.{starts_with};
+ghost use Rattle.seal_file.specs.Name.{IsFolderLen};
+
 use std::alloc::{AllocError, Global};
 use std::{fmt, str};
 
@@ -7,7 +11,7 @@ use std::{fmt, str};
 const MAX_LEN_IN_FOLDER: usize = 255;
 
 /// The name of a file, as bytes.
-#[derive(Drop)]
+#[derive(Clone, Drop)]
 pub struct Name {
     bytes: Vec<u8>,
 }
@@ -23,8 +27,16 @@ impl Name {
         &self.bytes
     }
 
+    /// Returns whether the name has no byte.
+    pub fn is_empty(&self) -> bool {
+        self.bytes.is_empty()
+    }
+
     /// How many bytes of the name are that of its folder, with the `/` after it.
-    fn folder_len(&self) -> usize {
+    fn folder_len(&self) -> usize
+        ensures folder { IsFolderLen self.now.bytes.items result }
+        ensures most { result ≤ length self.now.bytes.items }
+    {
         match self.bytes.iter().rposition(|byte| *byte == b'/') {
             Some(at) => at + 1,
             None => 0,
@@ -38,6 +50,19 @@ impl Name {
         if bytes.is_empty() {
             bytes.push(b'.')?;
         }
+        Ok(Name { bytes })
+    }
+
+    /// Returns the name that a link leads to, given the link's name and text.
+    pub fn target(&self, alloc: Global, text: &[u8]) -> Result<Name, AllocError>
+        ensures absolute { starts_with nat_eq text.now (47 ∷ []) ≡ true → IfOk result (λ it. it.bytes.items ≡ text.now) }
+        ensures relative { starts_with nat_eq text.now (47 ∷ []) ≡ false → IfOk result (λ it.
+            (n : ℕ) × IsFolderLen self.now.bytes.items n × (it.bytes.items ≡ take n self.now.bytes.items ++ text.now)) }
+    {
+        let is_absolute = text.starts_with(b"/");
+        let mut bytes = self.bytes.to_vec(alloc)?;
+        bytes.truncate(if is_absolute { 0 } else { self.folder_len() });
+        bytes.extend_from_slice(text)?;
         Ok(Name { bytes })
     }
 

@@ -348,10 +348,11 @@ impl Arguments {
             let what = secret_file.kind_name();
             return Err(Failure::Use(anyhow!("standard input is both IN and the {what}")));
         }
-        let has_named_stdout = output.as_ref().is_some_and(is_stream);
-        let output = output.and_then(file_of);
+        let has_named_stdout = output.as_ref().is_some_and(is_stdout);
+        let output = output.and_then(output_of);
         if has_force && output.is_none() {
-            return Err(Failure::Use(anyhow!("--force needs -o OUT")));
+            let text = anyhow!("--force needs -o OUT, which is not standard output");
+            return Err(Failure::Use(text));
         }
         Ok(Request::Convert(Conversion {
             action,
@@ -396,7 +397,7 @@ impl Arguments {
         let Some(output) = output else {
             return Err(Failure::Use(anyhow!("missing -o KEYFILE")));
         };
-        Ok(Request::Keygen(file_of(output)))
+        Ok(Request::Keygen(output_of(output)))
     }
 }
 
@@ -444,7 +445,7 @@ impl Request {
 
 impl SecretFile {
     /// Returns the name of the file, or `None` for standard input.
-    fn name(&self) -> Option<&Name> {
+    pub fn name(&self) -> Option<&Name> {
         match self {
             SecretFile::Key(key_file) => key_file.name.as_ref(),
             SecretFile::Passphrase(name) => name.as_ref(),
@@ -452,7 +453,7 @@ impl SecretFile {
     }
 
     /// Returns what the file has.
-    fn kind_name(&self) -> &'static str {
+    pub fn kind_name(&self) -> &'static str {
         match self {
             SecretFile::Key(_) => "key",
             SecretFile::Passphrase(_) => "passphrase",
@@ -482,14 +483,30 @@ fn is_option(word: &Name) -> bool {
     bytes.len() > 1 && bytes[0] == b'-'
 }
 
-/// Whether the name is `-`, which names a standard stream.
-fn is_stream(name: &Name) -> bool {
-    name.as_bytes() == b"-".as_slice()
+/// Whether the name is one of standard input.
+fn is_stdin(name: &Name) -> bool {
+    matches!(
+        name.as_bytes(),
+        b"-" | b"/dev/stdin" | b"/dev/fd/0" | b"/proc/self/fd/0"
+    )
 }
 
-/// The file with this name, or `None` if the name is that of a standard stream.
+/// The file with this name, or `None` if the name is one of standard input.
 fn file_of(name: Name) -> Option<Name> {
-    if is_stream(&name) { None } else { Some(name) }
+    if is_stdin(&name) { None } else { Some(name) }
+}
+
+/// Whether the name is one of standard output.
+fn is_stdout(name: &Name) -> bool {
+    matches!(
+        name.as_bytes(),
+        b"-" | b"/dev/stdout" | b"/dev/fd/1" | b"/proc/self/fd/1"
+    )
+}
+
+/// The file with this name, or `None` if the name is one of standard output.
+fn output_of(name: Name) -> Option<Name> {
+    if is_stdout(&name) { None } else { Some(name) }
 }
 
 /// The key file with this name.

@@ -1,5 +1,8 @@
 //! Files that are written whole or not at all.
 
+ghost use Rattle.std.specs.Prelude.{IfSome, IsSome, IsTrue};
+ghost use Rattle.std.specs.Fs.{IsFile, file_type};
+
 use crate::failure::{Failure, Place};
 use crate::files;
 use crate::name::Name;
@@ -40,6 +43,19 @@ impl Inputs<'_> {
             return Err(Failure::SecretFile);
         }
         Ok(())
+    }
+
+    /// Returns whether IN and the secret are one stream, so that neither is the whole of it. A regular file that both name is
+    /// opened twice, and isn't.
+    pub fn are_one_stream(self, have_names: bool) -> bool
+        ensures known { IsTrue result → IsSome self.entry.input × IsSome self.entry.secret }
+        ensures stream { IsTrue result → IsTrue have_names → IfSome self.entry.input (λ it. ¬ IsFile (file_type it.now)) }
+    {
+        let (Some(input), Some(secret)) = (self.input, self.secret) else {
+            return false;
+        };
+        let are_read_twice = have_names && input.is_file();
+        !are_read_twice && files::are_same(input, secret)
     }
 
     /// Checks that each can be identified.
@@ -100,6 +116,7 @@ pub fn check_target(
     inputs: Inputs<'_>,
     has_force: bool,
 ) -> Result<Access, Failure> {
+    check_replaceable(rt, target)?;
     let there = match files::metadata_of(rt, target) {
         Ok(metadata) => metadata,
         Err(error) if error.kind() == ErrorKind::NotFound => {
@@ -108,7 +125,7 @@ pub fn check_target(
             }
             return Ok(Access::New);
         }
-        Err(error) => return Err(Failure::Io(Place::Output, error)),
+        Err(error) => return Err(at_output(error)),
     };
     inputs.check_not_input(&there)?;
     if !has_force {
@@ -116,7 +133,7 @@ pub fn check_target(
     }
     inputs.check_known()?;
     if !there.is_file() {
-        return Err(Failure::NotRegular);
+        return Err(Failure::Folder);
     }
     Ok(Access::Replaced {
         mode: files::mode_of(&there),
@@ -124,12 +141,47 @@ pub fn check_target(
     })
 }
 
+/// Checks that the name is none that a file never takes: that of a device, a pipe or a socket, or a link into /proc, which is the
+/// system's.
+fn check_replaceable(rt: &HostRuntime, target: &Name) -> Result<(), Failure> {
+    if let Ok(there) = files::metadata_of(rt, target)
+        && !there.is_file()
+        && !there.is_dir()
+    {
+        return Err(Failure::NotRegular);
+    }
+    if files::leads_into_proc(rt, target).map_err(at_output)? {
+        return Err(Failure::InProc);
+    }
+    Ok(())
+}
+
+/// Checks that a new key file may have this name.
+pub fn check_key_target(rt: &HostRuntime, target: &Name) -> Result<(), Failure> {
+    check_replaceable(rt, target)?;
+    check_free(rt, target)
+}
+
 /// Checks that no file has this name, and no link, which may lead to no file.
-pub fn check_free(rt: &HostRuntime, target: &Name) -> Result<(), Failure> {
+fn check_free(rt: &HostRuntime, target: &Name) -> Result<(), Failure> {
     match files::exists(rt, target) {
         Ok(true) => Err(Failure::Exists),
         Ok(false) => Ok(()),
-        Err(error) => Err(Failure::Io(Place::Output, error)),
+        Err(error) => Err(at_output(error)),
+    }
+}
+
+/// The failure of writing OUT or the key file.
+fn at_output(error: io::Error) -> Failure {
+    Failure::Io(Place::Output, error)
+}
+
+/// Removes a new file after another failure. Warns if that fails too, so that the file is left.
+fn remove_or_warn(rt: &HostRuntime, name: &Name) {
+    if let Err(error) = files::remove(rt, name) {
+        let _ = eprintln!(rt;
+            "seal_file: {name}: warning: this file could not be removed: {error}"
+        );
     }
 }
 
