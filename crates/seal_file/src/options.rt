@@ -6,7 +6,7 @@ use crate::range::Range;
 use anyhow::anyhow;
 use std::alloc::{AllocError, Global};
 use std::env::{Env, FillError};
-use std::{io, str};
+use std::{fmt, io, str};
 
 /// The text that `--version` prints.
 pub const VERSION: &str = "seal_file 0.1.0";
@@ -137,6 +137,19 @@ enum Valued {
     RangeLen,
 }
 
+impl fmt::Display for Valued {
+    fn fmt<W: fmt::Write>(&self, f: &mut fmt::Formatter<W>) -> fmt::Result {
+        let name = match self {
+            Valued::Key => "-k",
+            Valued::Passphrase => "--passphrase-file",
+            Valued::Output => "-o",
+            Valued::Aad => "--aad",
+            Valued::RangeStart | Valued::RangeLen => "--range",
+        };
+        write!(f, "{name}")
+    }
+}
+
 /// The arguments so far.
 #[derive(Drop)]
 struct Arguments {
@@ -199,13 +212,21 @@ fn out_of_memory(_error: AllocError) -> Failure {
     Failure::Io(Place::Console, io::Error::from(io::ErrorKind::OutOfMemory))
 }
 
-/// Puts a value where none is yet.
-fn set<T: Drop>(place: &mut Option<T>, value: T) -> Result<(), Failure> {
+/// Puts the value of an option where none is yet.
+fn set<T: Drop>(place: &mut Option<T>, option: Valued, value: T) -> Result<(), Failure> {
     if place.is_some() {
-        return Err(Failure::Use(anyhow!("an option is given twice")));
+        return Err(Failure::Use(anyhow!("{option} is given twice")));
     }
     *place = Some(value);
     Ok(())
+}
+
+/// Puts the name of a file, the value of an option, where none is yet.
+fn set_name(place: &mut Option<Name>, option: Valued, name: Name) -> Result<(), Failure> {
+    if name.is_empty() {
+        return Err(Failure::Use(anyhow!("{option} is given an empty file name")));
+    }
+    set(place, option, name)
 }
 
 impl Arguments {
@@ -226,14 +247,14 @@ impl Arguments {
         }
     }
 
-    /// Takes an option without a value.
+    /// Takes a long option without a value.
     fn take_flag(&mut self, word: &Name) -> Result<(), Failure> {
         match word.as_bytes() {
-            b"-f" | b"--force" => self.has_force = true,
+            b"--force" => self.has_force = true,
             b"--progress" => self.has_progress = true,
-            b"-h" | b"--help" => self.has_help = true,
-            b"-V" | b"--version" => self.has_version = true,
-            _ => return Err(Failure::Use(anyhow!("unknown option {word}"))),
+            b"--help" => self.has_help = true,
+            b"--version" => self.has_version = true,
+            _ => return Err(unknown_option(word)),
         }
         Ok(())
     }
@@ -241,29 +262,91 @@ impl Arguments {
     /// Takes the value of an option. Returns the option whose value comes next, if there is one.
     fn take_value(&mut self, option: Valued, word: Name) -> Result<Option<Valued>, Failure> {
         match option {
-            Valued::Key => set(&mut self.key_file, word)?,
-            Valued::Passphrase => set(&mut self.passphrase_file, word)?,
-            Valued::Output => set(&mut self.output, word)?,
-            Valued::Aad => set(&mut self.aad, word)?,
+            Valued::Key => set_name(&mut self.key_file, option, word)?,
+            Valued::Passphrase => set_name(&mut self.passphrase_file, option, word)?,
+            Valued::Output => set_name(&mut self.output, option, word)?,
+            Valued::Aad => set(&mut self.aad, option, word)?,
             Valued::RangeStart => {
-                set(&mut self.start, number_in(&word)?)?;
+                set(&mut self.start, option, number_in(&word)?)?;
                 return Ok(Some(Valued::RangeLen));
             }
-            Valued::RangeLen => set(&mut self.len, number_in(&word)?)?,
+            Valued::RangeLen => set(&mut self.len, option, number_in(&word)?)?,
         }
         Ok(None)
     }
 
-    /// Takes an option, with its value if that is in the same word. Returns the option whose value comes next, if there is one.
-    fn take_option(&mut self, alloc: Global, word: Name) -> Result<Option<Valued>, Failure> {
-        let (name, value) = option_and_value(word.as_bytes());
-        let Some(option) = valued_option(name) else {
-            self.take_flag(&word)?;
+    /// Takes the options of a word: a long one, or short ones that are joined. Returns the option whose value is the next word, if
+    /// there is one.
+    fn take_options(&mut self, alloc: Global, word: &Name) -> Result<Option<Valued>, Failure> {
+        match word.as_bytes() {
+            [b'-', b'-', ..] => self.take_long(alloc, word),
+            [_, letters @ ..] => self.take_short(alloc, word, letters),
+            [] => Ok(None),
+        }
+    }
+
+    /// Takes a long option, whose value may be in the same word: `--output=OUT`.
+    fn take_long(&mut self, alloc: Global, word: &Name) -> Result<Option<Valued>, Failure> {
+        let bytes = word.as_bytes();
+        let (name, value) = match bytes.iter().position(|byte| *byte == b'=') {
+            Some(at) => (&bytes[..at], Some(&bytes[at + 1..])),
+            None => (bytes, None),
+        };
+        let Some(option) = long_option(name) else {
+            self.take_flag(word)?;
             return Ok(None);
         };
-        let Some(value) = value else {
-            return Ok(Some(option));
-        };
+        match value {
+            Some(value) => self.take_joined(alloc, option, value),
+            None => Ok(Some(option)),
+        }
+    }
+
+    /// Takes short options that are joined. The value of the last may follow: `-foOUT`.
+    fn take_short(
+        &mut self,
+        alloc: Global,
+        word: &Name,
+        letters: &[u8],
+    ) -> Result<Option<Valued>, Failure> {
+        for (i, letter) in letters.iter().enumerate() {
+            let option = match letter {
+                b'k' => Valued::Key,
+                b'o' => Valued::Output,
+                _ => {
+                    self.take_letter(*letter, word)?;
+                    continue;
+                }
+            };
+            return match &letters[i + 1..] {
+                [] => Ok(Some(option)),
+                [b'=', ..] => Err(Failure::Use(anyhow!(
+                    "{word}: {option} takes its value without ="
+                ))),
+                value => self.take_joined(alloc, option, value),
+            };
+        }
+        Ok(None)
+    }
+
+    /// Takes a short option without a value, which is in this word.
+    fn take_letter(&mut self, letter: u8, word: &Name) -> Result<(), Failure> {
+        match letter {
+            b'f' => self.has_force = true,
+            b'h' => self.has_help = true,
+            b'V' => self.has_version = true,
+            _ => return Err(unknown_option(word)),
+        }
+        Ok(())
+    }
+
+    /// Takes the value of an option in whose word it is.
+    fn take_joined(
+        &mut self,
+        alloc: Global,
+        option: Valued,
+        value: &[u8],
+    ) -> Result<Option<Valued>, Failure> {
         let value = value.to_vec(alloc).map_err(out_of_memory)?;
         self.take_value(option, Name::new(value))
     }
@@ -273,6 +356,9 @@ impl Arguments {
         if self.verb.is_some() {
             if self.input.is_some() {
                 return Err(Failure::Use(anyhow!("unexpected argument {word}")));
+            }
+            if word.is_empty() {
+                return Err(Failure::Use(anyhow!("an argument is an empty file name")));
             }
             self.input = Some(word);
             return Ok(());
@@ -415,11 +501,11 @@ impl Request {
             } else if word.as_bytes() == b"--".as_slice() {
                 has_ended = true;
             } else {
-                option = words.take_option(alloc, word)?;
+                option = words.take_options(alloc, &word)?;
             }
         }
-        if option.is_some() {
-            return Err(Failure::Use(anyhow!("the last option needs a value")));
+        if let Some(option) = option {
+            return Err(Failure::Use(anyhow!("{option} needs a value")));
         }
         words.request()
     }
@@ -516,27 +602,17 @@ fn key_file_named(name: Name) -> KeyFile {
     }
 }
 
-/// The name of an option, and its value if that is in the same word: `--output=OUT`, `-oOUT`.
-fn option_and_value(word: &[u8]) -> (&[u8], Option<&[u8]>) {
-    if word.starts_with(b"--") {
-        return match word.iter().position(|byte| *byte == b'=') {
-            Some(at) => (&word[..at], Some(&word[at + 1..])),
-            None => (word, None),
-        };
-    }
-    if word.len() > 2 {
-        (&word[..2], Some(&word[2..]))
-    } else {
-        (word, None)
-    }
+/// The failure that a word is no option.
+fn unknown_option(word: &Name) -> Failure {
+    Failure::Use(anyhow!("unknown option {word}"))
 }
 
-/// The option with this name that takes a value.
-fn valued_option(name: &[u8]) -> Option<Valued> {
+/// The option with this long name that takes a value.
+fn long_option(name: &[u8]) -> Option<Valued> {
     match name {
-        b"-k" | b"--key" => Some(Valued::Key),
+        b"--key" => Some(Valued::Key),
         b"--passphrase-file" => Some(Valued::Passphrase),
-        b"-o" | b"--output" => Some(Valued::Output),
+        b"--output" => Some(Valued::Output),
         b"--aad" => Some(Valued::Aad),
         b"--range" => Some(Valued::RangeStart),
         _ => None,
