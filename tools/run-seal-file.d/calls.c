@@ -1,5 +1,6 @@
 /* Says on standard error when the program calls fsync, link or rename, and lets the call named by FAILING fail. If that is
- * `read`, each second read is interrupted, from the first on. If it is `proc`, no file of /proc has metadata. */
+ * `read`, each second read is interrupted, from the first on. If it is `proc`, no file of /proc has metadata. If it is `unlink` or
+ * `fchmod`, no file is removed or gets another mode; `fchmod EPERM` is the error of a file system that has no modes. */
 #define _GNU_SOURCE
 #include <dlfcn.h>
 #include <errno.h>
@@ -45,6 +46,19 @@ int link(const char *from, const char *to) {
 int rename(const char *from, const char *to) {
     int (*next)(const char *, const char *) = (int (*)(const char *, const char *))dlsym(RTLD_NEXT, "rename");
     return fails("rename") ? -1 : next(from, to);
+}
+
+int unlink(const char *path) {
+    int (*next)(const char *) = (int (*)(const char *))dlsym(RTLD_NEXT, "unlink");
+    errno = EIO;
+    return is_failing("unlink") ? -1 : next(path);
+}
+
+int fchmod(int fd, mode_t mode) {
+    int (*next)(int, mode_t) = (int (*)(int, mode_t))dlsym(RTLD_NEXT, "fchmod");
+    int is_unsupported = is_failing("fchmod EPERM");
+    errno = is_unsupported ? EPERM : EIO;
+    return is_unsupported || is_failing("fchmod") ? -1 : next(fd, mode);
 }
 
 int statx(int folder, const char *path, int flags, unsigned mask, struct statx *out) {

@@ -51,6 +51,8 @@ pub enum Failure {
     FirstRefused(u32),
     /// Reading or writing failed, or allocating memory failed.
     Io(Place, io::Error),
+    /// OUT or the key file is in place, but the file still has the other name too, under which it was written.
+    NotRemoved(Name, io::Error),
     /// OUT or the key file is in place, but its folder may not have reached the device.
     NotSynced(io::Error),
 }
@@ -60,7 +62,7 @@ impl Failure {
     pub fn status(&self) -> u8 {
         match self {
             Failure::Refused(_) | Failure::FirstRefused(_) => 1,
-            Failure::Io(_, _) | Failure::NotSynced(_) => 3,
+            Failure::Io(_, _) | Failure::NotRemoved(_, _) | Failure::NotSynced(_) => 3,
             _ => 2,
         }
     }
@@ -127,6 +129,12 @@ impl fmt::Display for Failure {
                 )
             }
             Failure::Io(_, error) => write!(f, "{error}"),
+            Failure::NotRemoved(name, error) => {
+                write!(
+                    f,
+                    "the file is in place, but its other name {name} could not be removed: {error}"
+                )
+            }
             Failure::NotSynced(error) => {
                 write!(
                     f,

@@ -123,8 +123,14 @@ pub fn remove(rt: &HostRuntime, name: &Name) -> io::Result<()> {
     fs::remove_file(rt, text_of(name)?)
 }
 
-/// Waits until the folder of a file has reached the device, with the file's name.
-pub fn sync_folder_of(rt: &HostRuntime, name: &Name) -> io::Result<()> {
+/// Waits until the folder of a file has reached the device, with the file's name. Returns false if the process may not read the
+/// folder, and so cannot.
+pub fn sync_folder_of(rt: &HostRuntime, name: &Name) -> io::Result<bool> {
     let folder = name.folder(rt.alloc())?;
-    open(rt, &folder)?.sync_all()
+    match open(rt, &folder) {
+        Ok(file) => file.sync_all()?,
+        Err(error) if error.kind() == ErrorKind::PermissionDenied => return Ok(false),
+        Err(error) => return Err(error),
+    }
+    Ok(true)
 }

@@ -16,6 +16,8 @@ pub const NUMBER_LEN: usize = 8;
 pub struct NewFile {
     file: File,
     name: Name,
+    /// The mode that it gets before it is renamed. Until then its owner alone may read it.
+    mode: u32,
 }
 
 /// A new file that `NewFile::synced` returned. Only such a file can be given its name.
@@ -79,37 +81,54 @@ pub enum Access {
 }
 
 impl Access {
-    /// The mode that the file is created with, less the process's umask. It gives the group and others nothing that `apply_to`
-    /// takes back.
+    /// The mode that the file is created with, less the process's umask.
     fn first_mode(self) -> u32 {
         match self {
             Access::New => 0o666,
-            Access::Owner => 0o600,
-            Access::Replaced { mode, .. } => mode & 0o700,
+            Access::Owner | Access::Replaced { .. } => files::OWNER_ALONE,
         }
     }
 
-    /// Gives a file that was created with `first_mode` its mode.
+    /// Returns the mode that a file gets that was created with `first_mode`.
     ///
     /// If its group is not that of the file that it replaces, whoever was of the group may now be one of the others, and the other
     /// way round: group and others get what both had.
-    fn apply_to(self, file: &File) -> io::Result<()> {
+    fn last_mode(self, file: &File) -> io::Result<u32> {
         match self {
-            Access::New => Ok(()),
-            Access::Owner => files::set_mode(file, self.first_mode()),
-            Access::Replaced { mode, group } => {
-                if files::group_of(&file.metadata()?) == group {
-                    return files::set_mode(file, mode);
-                }
-                let both = (mode >> 3) & mode & 0o7;
-                files::set_mode(file, (mode & 0o700) | (both << 3) | both)
+            Access::New => Ok(files::mode_of(&file.metadata()?)),
+            Access::Owner => Ok(files::OWNER_ALONE),
+            Access::Replaced { mode, group } if files::group_of(&file.metadata()?) == group => {
+                Ok(mode)
             }
+            Access::Replaced { mode, .. } => {
+                let both = (mode >> 3) & mode & 0o7;
+                Ok((mode & 0o700) | (both << 3) | both)
+            }
+        }
+    }
+
+    /// Lets the owner of a new file alone read it, before a byte is written. Returns the mode that it is to get.
+    ///
+    /// A file system without modes refuses that. There the file stays as readable as any, unless it holds a key.
+    fn hide(self, file: &File) -> io::Result<u32> {
+        let mode = self.last_mode(file)?;
+        match files::set_mode(file, files::OWNER_ALONE) {
+            Err(error) if !matches!(self, Access::Owner) && is_unsupported(&error) => Ok(mode),
+            hidden => hidden.map(|()| mode),
         }
     }
 }
 
-/// Checks that OUT is not a file that is read, a directory or a device and, unless forced, does not exist. Returns who may access
-/// the new file.
+/// Returns whether a file system doesn't have what was asked of it.
+fn is_unsupported(error: &io::Error) -> bool {
+    matches!(
+        error.kind(),
+        ErrorKind::PermissionDenied | ErrorKind::Unsupported
+    )
+}
+
+/// Checks that OUT is not a file that is read, a folder or what no file replaces and, unless forced, does not exist. Returns who
+/// may access the new file.
 pub fn check_target(
     rt: &HostRuntime,
     target: &Name,
@@ -197,15 +216,17 @@ impl NewFile {
         let end = format!(in rt.alloc(); ".part-{number:016x}")?;
         let name = target.with_end(rt.alloc(), end.as_bytes())?;
         let file = files::create_new(rt, &name, access.first_mode())?;
-        if let Err(error) = access.apply_to(&file) {
-            let _ = files::remove(rt, &name);
-            return Err(error);
+        match access.hide(&file) {
+            Ok(mode) => Ok(NewFile { file, name, mode }),
+            Err(error) => {
+                remove_or_warn(rt, &name);
+                Err(error)
+            }
         }
-        Ok(NewFile { file, name })
     }
 
-    /// Gives the file its name, as `SyncedFile::name_as` does, and waits until the name has reached the device. Removes the file if
-    /// writing it failed.
+    /// Gives the file its name, as `SyncedFile::name_as` does, and waits until the name has reached the device, or warns if it need
+    /// not have. Removes the file if writing it failed.
     pub fn finish(
         self,
         rt: &HostRuntime,
@@ -217,29 +238,39 @@ impl NewFile {
             self.discard(rt);
             return Err(failure);
         }
-        let synced = self
-            .synced(rt)
-            .map_err(|error| Failure::Io(Place::Output, error))?;
-        synced.name_as(rt, target, has_force)?;
-        files::sync_folder_of(rt, target).map_err(Failure::NotSynced)
+        let left = self.synced(rt)?.name_as(rt, target, has_force)?;
+        let is_synced = files::sync_folder_of(rt, target);
+        if let Some(left) = left {
+            return Err(left);
+        }
+        if !is_synced.map_err(Failure::NotSynced)? {
+            let _ = eprintln!(rt;
+                "seal_file: {target}: warning: the file is in place, but its folder was not synced, since it may not be read"
+            );
+        }
+        Ok(())
     }
 
-    /// Waits until the file has reached the device. Removes it if that fails.
-    fn synced(self, rt: &HostRuntime) -> io::Result<SyncedFile> {
-        let NewFile { file, name } = self;
-        match file.sync_all() {
+    /// Gives the file its mode, and waits until it has reached the device. Removes it if that fails.
+    fn synced(self, rt: &HostRuntime) -> Result<SyncedFile, Failure> {
+        let NewFile { file, name, mode } = self;
+        match files::set_mode(&file, mode).and_then(|()| file.sync_all()) {
             Ok(()) => Ok(SyncedFile { name }),
             Err(error) => {
-                let _ = files::remove(rt, &name);
-                Err(error)
+                remove_or_warn(rt, &name);
+                Err(at_output(error))
             }
         }
     }
 
     /// Removes the file.
     fn discard(self, rt: &HostRuntime) {
-        let NewFile { file: _file, name } = self;
-        let _ = files::remove(rt, &name);
+        let NewFile {
+            file: _file,
+            name,
+            mode: _,
+        } = self;
+        remove_or_warn(rt, &name);
     }
 }
 
@@ -254,22 +285,28 @@ impl Write for NewFile {
 }
 
 impl SyncedFile {
-    /// Gives the file its name. It replaces another file only if forced. If this fails, the file is removed.
-    fn name_as(self, rt: &HostRuntime, target: &Name, has_force: bool) -> Result<(), Failure> {
+    /// Gives the file its name. It replaces another file only if forced. If this fails, the file is removed. Returns the failure to
+    /// remove the name that it had, if it has that name too.
+    fn name_as(
+        self,
+        rt: &HostRuntime,
+        target: &Name,
+        has_force: bool,
+    ) -> Result<Option<Failure>, Failure> {
         let SyncedFile { name } = self;
         let named = if has_force {
-            files::rename(rt, &name, target)
+            files::rename(rt, &name, target).map(|()| None)
         } else {
             rename_no_replace(rt, &name, target)
         };
         match named {
-            Ok(()) => Ok(()),
+            Ok(left) => Ok(left.map(|error| Failure::NotRemoved(name, error))),
             Err(error) => {
-                let _ = files::remove(rt, &name);
+                remove_or_warn(rt, &name);
                 if !has_force && error.kind() == ErrorKind::AlreadyExists {
                     return Err(Failure::Exists);
                 }
-                Err(Failure::Io(Place::Output, error))
+                Err(at_output(error))
             }
         }
     }
@@ -277,19 +314,19 @@ impl SyncedFile {
 
 /// Renames a file. Fails if another file or a link has the new name.
 ///
-/// The file first gets it as a second name. If the file system has no second names, an empty file takes the name, which is then
-/// replaced.
-fn rename_no_replace(rt: &HostRuntime, from: &Name, to: &Name) -> io::Result<()> {
+/// The file first gets it as a second name, and then loses the first. If the file system has no second names, an empty file takes
+/// the name, which is then replaced. Returns the error of removing the first name, if the file keeps it.
+fn rename_no_replace(rt: &HostRuntime, from: &Name, to: &Name) -> io::Result<Option<io::Error>> {
     match files::link(rt, from, to) {
-        Ok(()) => files::remove(rt, from),
+        Ok(()) => Ok(files::remove(rt, from).err()),
         Err(error) if error.kind() == ErrorKind::AlreadyExists => Err(error),
         Err(_) => {
-            let _empty = files::create_new(rt, to, 0o600)?;
+            let _empty = files::create_new(rt, to, files::OWNER_ALONE)?;
             let renamed = files::rename(rt, from, to);
             if renamed.is_err() {
-                let _ = files::remove(rt, to);
+                remove_or_warn(rt, to);
             }
-            renamed
+            renamed.map(|()| None)
         }
     }
 }
