@@ -44,7 +44,10 @@ pub fn are_same(first: &Metadata, second: &Metadata) -> bool {
 fn text_of(name: &Name) -> io::Result<&str> {
     match str::from_utf8(name.as_bytes()) {
         Ok(text) => Ok(text),
-        Err(_) => Err(io::Error::new(ErrorKind::InvalidInput, "the file's name isn't UTF-8")),
+        Err(_) => {
+            let text = "the file's name isn't UTF-8: redirect standard input or output";
+            Err(io::Error::new(ErrorKind::InvalidInput, text))
+        }
     }
 }
 

@@ -206,7 +206,7 @@ fn print_len(
         return println!(rt; "length unknown: not a regular file");
     }
     match plaintext_len(metadata.len().saturating_sub(more as u64)) {
-        Some(len) => println!(rt; "length {len}, unless the file was cut"),
+        Some(len) => println!(rt; "length {len}, unless the file was cut or lengthened"),
         None => println!(rt; "no sealed file has this length: bytes were cut off or appended"),
     }
 }
