@@ -1,9 +1,11 @@
 /* Says on standard error when the program calls fsync, link or rename, and lets the call named by FAILING fail. If that is
  * `read`, each second read is interrupted, from the first on. If it is `proc`, no file of /proc has metadata. If it is `unlink` or
- * `fchmod`, no file is removed or gets another mode; `fchmod EPERM` is the error of a file system that has no modes. */
+ * `fchmod`, no file is removed or gets another mode; `fchmod EPERM` is the error of a file system that has no modes. If it is
+ * `killed`, the process is killed instead of its first call of fsync. */
 #define _GNU_SOURCE
 #include <dlfcn.h>
 #include <errno.h>
+#include <signal.h>
 #include <stdio.h>
 #include <stdlib.h>
 #include <string.h>
@@ -25,6 +27,9 @@ int fsync(int fd) {
     int (*next)(int) = (int (*)(int))dlsym(RTLD_NEXT, "fsync");
     struct stat of;
     int is_folder = fstat(fd, &of) == 0 && S_ISDIR(of.st_mode);
+    if (is_failing("killed")) {
+        raise(SIGKILL);
+    }
     return fails(is_folder ? "fsync folder" : "fsync") ? -1 : next(fd);
 }
 

@@ -471,7 +471,7 @@ fn warn_of_readable_secret(
     };
 }
 
-/// Returns the passphrase in a file, or on standard input: its bytes without one newline at their end. Warns of what is odd in it.
+/// Returns the passphrase in a file, or on standard input: its bytes without one newline at their end. Warns if it is odd.
 fn read_passphrase(
     rt: &HostRuntime,
     name: Option<&Name>,

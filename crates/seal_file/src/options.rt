@@ -275,8 +275,8 @@ impl Arguments {
         Ok(None)
     }
 
-    /// Takes the options of a word: a long one, or short ones that are joined. Returns the option whose value is the next word, if
-    /// there is one.
+    /// Takes the options of a word: a long one, or short ones that are joined. Returns the option whose value is the next word,
+    /// if there is one.
     fn take_options(&mut self, alloc: Global, word: &Name) -> Result<Option<Valued>, Failure> {
         match word.as_bytes() {
             [b'-', b'-', ..] => self.take_long(alloc, word),

@@ -225,8 +225,8 @@ impl NewFile {
         }
     }
 
-    /// Gives the file its name, as `SyncedFile::name_as` does, and waits until the name has reached the device, or warns if it need
-    /// not have. Removes the file if writing it failed.
+    /// Gives the file its name, as `SyncedFile::name_as` does, and waits until the name has reached the device. Warns if it may not
+    /// read the folder, and so cannot. Removes the file if writing it failed.
     pub fn finish(
         self,
         rt: &HostRuntime,
@@ -251,10 +251,10 @@ impl NewFile {
         Ok(())
     }
 
-    /// Gives the file its mode, and waits until it has reached the device. Removes it if that fails.
+    /// Waits until the file has reached the device, and gives it its mode. Removes it if that fails.
     fn synced(self, rt: &HostRuntime) -> Result<SyncedFile, Failure> {
         let NewFile { file, name, mode } = self;
-        match files::set_mode(&file, mode).and_then(|()| file.sync_all()) {
+        match file.sync_all().and_then(|()| files::set_mode(&file, mode)) {
             Ok(()) => Ok(SyncedFile { name }),
             Err(error) => {
                 remove_or_warn(rt, &name);
@@ -285,8 +285,8 @@ impl Write for NewFile {
 }
 
 impl SyncedFile {
-    /// Gives the file its name. It replaces another file only if forced. If this fails, the file is removed. Returns the failure to
-    /// remove the name that it had, if it has that name too.
+    /// Gives the file its name. It replaces another file only if forced. If this fails, the file is removed. Returns the failure
+    /// to remove the name that it had, if it has that name too.
     fn name_as(
         self,
         rt: &HostRuntime,
