@@ -1,0 +1,228 @@
+/* The part of the program seal_file that is written in C. The rest is the assembly that tools/dist made of crates/seal_file:
+ *
+ *     cc seal_file.c seal_file-x86_64-v2.s -o seal_file
+ *
+ * Here are the functions that the toolchain's crates `libc` and `os` take from C, and what Rattle has no calls for: the test of
+ * the processor, signals, and a passphrase that is typed. The assembly begins at rattle_main, and calls rattle_open, rattle_rename
+ * and rattle_unlink, so that the handler of a signal knows which files to remove. */
+#define _DEFAULT_SOURCE
+#include "deerlapse.h"
+
+#include <errno.h>
+#include <fcntl.h>
+#include <limits.h>
+#include <signal.h>
+#include <stdio.h>
+#include <stdlib.h>
+#include <string.h>
+#include <sys/syscall.h>
+#include <termios.h>
+#include <unistd.h>
+
+typedef struct {
+    uint64_t ok;
+    uint8_t *p;
+} tried;
+
+tried rattle_alloc(size_t n, size_t a);
+tried rattle_realloc(uint8_t *p, size_t kept, size_t n, size_t a);
+void rattle_dealloc(uint8_t *p);
+int32_t rattle_errno(void);
+void rattle_set_errno(int32_t error);
+size_t rattle_arg_count(void);
+ptrdiff_t rattle_arg(size_t i, uint8_t *buf, size_t len);
+int rattle_open(const char *path, int flags, mode_t mode);
+int rattle_rename(const char *from, const char *to);
+int rattle_unlink(const char *path);
+int rattle_main(void);
+
+/* The heap. */
+
+static tried of(uint8_t *p) {
+    static uint8_t nowhere;
+    tried it = {p != NULL, p ? p : &nowhere};
+    return it;
+}
+
+/* The alignment `a` divides 16, which malloc's is. */
+tried rattle_alloc(size_t n, size_t a) { return of(malloc(n ? n : a)); }
+
+tried rattle_realloc(uint8_t *p, size_t kept, size_t n, size_t a) {
+    (void)kept;
+    return of(realloc(p, n ? n : a));
+}
+
+void rattle_dealloc(uint8_t *p) { free(p); }
+
+/* errno and the arguments. */
+
+static size_t count;
+static char **arguments;
+
+int32_t rattle_errno(void) { return errno; }
+
+void rattle_set_errno(int32_t error) { errno = error; }
+
+size_t rattle_arg_count(void) { return count; }
+
+ptrdiff_t rattle_arg(size_t i, uint8_t *buf, size_t len) {
+    if (i >= count) return -1;
+    const size_t needed = strlen(arguments[i]);
+    memcpy(buf, arguments[i], needed < len ? needed : len);
+    return needed <= len ? (ptrdiff_t)needed : -2;
+}
+
+#ifndef __GLIBC__
+/* musl lacks it before version 1.2.5. */
+int statx(int folder, const char *path, int flags, unsigned mask, void *to);
+
+int statx(int folder, const char *path, int flags, unsigned mask, void *to) {
+    return (int)syscall(SYS_statx, folder, path, flags, mask, to);
+}
+#endif
+
+/* Signals. One that ends the program still does, after unfinished files are removed and the terminal shows again what is typed. */
+
+/* The names of the new files: one beside OUT and, in a file system without hard links, OUT itself, which is empty at first.
+ * Signals are blocked while a name is put here or taken away. */
+static char unfinished[2][PATH_MAX];
+static const int ending[] = {SIGHUP, SIGINT, SIGTERM};
+static volatile sig_atomic_t terminal = -1;
+static struct termios shown;
+
+static sigset_t those_ending(void) {
+    sigset_t all;
+    sigemptyset(&all);
+    for (size_t i = 0; i < sizeof ending / sizeof ending[0]; i++) sigaddset(&all, ending[i]);
+    return all;
+}
+
+/* The action for the signal is again the default one, which raise leaves for when this function has returned. */
+static void end_by(int number) {
+    for (size_t i = 0; i < 2; i++)
+        if (unfinished[i][0]) unlink(unfinished[i]);
+    if (terminal >= 0) tcsetattr(terminal, TCSAFLUSH, &shown);
+    raise(number);
+}
+
+static void catch_signals(void) {
+    struct sigaction by_us = {.sa_handler = end_by, .sa_mask = those_ending(), .sa_flags = (int)SA_RESETHAND}, now;
+    for (size_t i = 0; i < sizeof ending / sizeof ending[0]; i++) {
+        /* One that is ignored from the start, as SIGHUP under nohup, stays so. */
+        if (sigaction(ending[i], NULL, &now) == 0 && now.sa_handler == SIG_DFL) sigaction(ending[i], &by_us, NULL);
+    }
+    /* A write to a pipe without a reader, or beyond a limit on the size of files, then fails. */
+    signal(SIGPIPE, SIG_IGN);
+    signal(SIGXFSZ, SIG_IGN);
+}
+
+static sigset_t blocked(void) {
+    sigset_t all = those_ending(), before;
+    sigprocmask(SIG_BLOCK, &all, &before);
+    return before;
+}
+
+static void unblock(sigset_t before) {
+    const int error = errno;
+    sigprocmask(SIG_SETMASK, &before, NULL);
+    errno = error;
+}
+
+static void replace(const char *name, const char *by) {
+    for (size_t i = 0; i < 2; i++) {
+        if (strcmp(unfinished[i], name) != 0) continue;
+        strcpy(unfinished[i], by);
+        return;
+    }
+}
+
+static void finished(const char *path) { replace(path, ""); }
+
+/* A path of PATH_MAX bytes or more is refused by the system. */
+int rattle_open(const char *path, int flags, mode_t mode) {
+    if (!(flags & O_EXCL)) return open(path, flags, mode);
+    const sigset_t before = blocked();
+    const int file = open(path, flags, mode);
+    if (file >= 0) replace("", path);
+    unblock(before);
+    return file;
+}
+
+int rattle_rename(const char *from, const char *to) {
+    const sigset_t before = blocked();
+    const int failed = rename(from, to);
+    if (!failed) finished(from), finished(to);
+    unblock(before);
+    return failed;
+}
+
+int rattle_unlink(const char *path) {
+    const sigset_t before = blocked();
+    const int failed = unlink(path);
+    if (!failed) finished(path);
+    unblock(before);
+    return failed;
+}
+
+/* A passphrase that is typed. */
+
+enum { ROOM = 1024 };
+
+/* Asks for a line. Returns its length without the newline, 0 if there is no room for it, or -1. */
+static ssize_t ask(const char *prompt, char line[ROOM]) {
+    if (write(terminal, prompt, strlen(prompt)) < 0) return -1;
+    const ssize_t len = read(terminal, line, ROOM);
+    if (write(terminal, "\n", 1) < 0) return -1;
+    if (len == ROOM && line[len - 1] != '\n') return 0;
+    return len > 0 && line[len - 1] == '\n' ? len - 1 : len;
+}
+
+/* Writes why the program ends, and returns its exit status. */
+static int failure(const char *what) { return perror(what), 3; }
+static int refusal(const char *why) { return fprintf(stderr, "seal_file: %s\n", why), 2; }
+
+/* Asks on the terminal, twice for a new passphrase, and puts an option that names a pipe with it in the place of `word`.
+ * Returns 0, or an exit status. */
+static int take_passphrase(char **word, bool is_new) {
+    static char option[sizeof "--passphrase-file=/dev/fd/" + 3 * sizeof(int)];
+    char line[ROOM], again[ROOM];
+    int ends[2];
+    const int tty = open("/dev/tty", O_RDWR | O_CLOEXEC);
+    if (tty < 0 || tcgetattr(tty, &shown) != 0) return failure("seal_file: /dev/tty");
+    struct termios hidden = shown;
+    hidden.c_lflag &= ~(tcflag_t)ECHO;
+    hidden.c_cc[VQUIT] = hidden.c_cc[VSUSP] = _POSIX_VDISABLE;
+    terminal = tty;
+    if (tcsetattr(tty, TCSAFLUSH, &hidden) != 0) return failure("seal_file: /dev/tty");
+    const ssize_t len = ask("Passphrase: ", line);
+    const ssize_t len_again = len > 0 && is_new ? ask("The same again: ", again) : len;
+    if (tcsetattr(tty, TCSAFLUSH, &shown) != 0 || len < 0 || len_again < 0) return failure("seal_file: /dev/tty");
+    terminal = -1;
+    close(tty);
+    if (len == 0) return refusal("the passphrase is empty, or longer than 1023 bytes");
+    if (is_new && (len != len_again || memcmp(line, again, (size_t)len) != 0)) return refusal("the passphrases differ");
+    if (pipe(ends) != 0 || write(ends[1], line, (size_t)len) != len) return failure("seal_file: a pipe");
+    close(ends[1]);
+    explicit_bzero(line, sizeof line);
+    explicit_bzero(again, sizeof again);
+    snprintf(option, sizeof option, "--passphrase-file=/dev/fd/%d", ends[0]);
+    *word = option;
+    return 0;
+}
+
+int main(int argc, char **argv) {
+    if (!deerlapse_cpu_supported()) {
+        fputs("seal_file: this processor lacks instructions of the level x86-64-v2: SSSE3, SSE4.2 or POPCNT\n", stderr);
+        return 3;
+    }
+    catch_signals();
+    /* `seal --passphrase` or `open --passphrase`. */
+    if (argc > 2 && strcmp(argv[2], "--passphrase") == 0) {
+        const bool seals = strcmp(argv[1], "seal") == 0;
+        const int status = seals || strcmp(argv[1], "open") == 0 ? take_passphrase(&argv[2], seals) : 0;
+        if (status) return status;
+    }
+    count = (size_t)argc;
+    arguments = argv;
+    return rattle_main();
+}
