@@ -1,0 +1,3 @@
+pub mod Derivation
+pub mod Expanded
+pub mod Xaes
