@@ -3,13 +3,12 @@ use Rattle.std.proofs
 use proofs.Common.{◌≡◌, ℕ, inl, inr, ◌+◌, ◌≤◌, List, [], ◌∷◌, ◌++◌, length, take, drop, refl, sym, ap, ◌∙◌, arith, drop_at, drop-drop, get_or-take, length-append, length-drop, length-take, take-append-drop, take-take, take_at}
 use Rattle.std.specs.Prelude.{codes, slice_index}
 use proofs.lemmas.List.{drop-take}
-use Rattle.std.specs.Int.{to_be_bytes, w16}
-use Rattle.aead_ciphers_base.specs.Aes.{aes, length_aes}
-use Rattle.aead_ciphers_base.specs.Bytes.{◌⊕◌, zero_block}
+use Rattle.xaes.specs.Derivation.{derived_block}
+use Rattle.xaes.proofs.DerivationLemmas.{length-derived_block}
 use Rattle.sealed_file.specs
 use specs.declared.error.FileError.{FileError}
 use specs.declared.error.FileError.TheVariants.{AnotherMagic, AnotherVersion, WrongKey, EndsEarly}
-use specs.Derivation.{cmac_of_block, commitment, derived_block, first_subkey}
+use specs.Derivation.{commitment}
 use specs.Format.{ChunkKey, Secret, magic_and_version, fresh_key}
 use specs.Opening.{HasHeader, chunk_key, context_of, header_len, header_of}
 use specs.Refusals.{HeaderRefuses, IsOfAnotherKey, IsVersion, VersionRefuses}
@@ -22,10 +21,6 @@ pub length-header_of-le : (file : List ℕ) → length (header_of file) ≤ head
 length-header_of-le file = omega (arith, length-take header_len file)
 
 -- ---- what a header is made of
-
-length-derived_block : (key context : List ℕ) (i : ℕ) → length (derived_block key context i) ≡ 16
-unfolding derived_block cmac_of_block
-length-derived_block key context i = length_aes key (first_subkey (aes key zero_block) ⊕ (to_be_bytes w16 i ++ 88 ∷ 0 ∷ context))
 
 length-commitment : (key context : List ℕ) → length (commitment key context) ≡ 32
 length-commitment key context =

@@ -1,5 +1,4 @@
 pub mod ChunkLemmas
-pub mod DerivationLemmas
 pub mod FileLemmas
 pub mod ForgedLemmas
 pub mod HeaderLemmas

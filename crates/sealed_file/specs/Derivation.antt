@@ -1,30 +1,6 @@
--- Deriving the key of a file: CMAC (NIST SP 800-38B) over AES-256 in counter mode (NIST SP 800-108r1), as XAES-256-GCM (a C2SP
--- specification) derives its keys.
-use Rattle.std.specs.Prelude.{ℕ, ◌*◌, ◌%◌, ◌^◌, nat_lt, List, ◌∷◌, ◌++◌, bit_xor, if◌then◌else◌}
-use Rattle.std.specs.Int.{from_be_bytes, to_be_bytes, w16, w128}
-use Rattle.aead_ciphers_base.specs.Bytes.{◌⊕◌, zero_block}
-use Rattle.aead_ciphers_base.specs.Aes.{aes}
-
--- the first subkey K1 from the encrypted zero block L: L as a number whose highest bit is the block's first, shifted left by
--- one bit, and XORed with 10000111 if the bit shifted out was 1 (SP 800-38B sections 5.3 and 6.1)
-unfoldable pub first_subkey : List ℕ → List ℕ
-first_subkey cipher_of_zero =
-    let l = from_be_bytes w128 cipher_of_zero in
-    let shifted = l * 2 % 2 ^ 128 in
-    to_be_bytes w128 (if nat_lt l (2 ^ 127) then shifted else bit_xor shifted 0x87)
-
--- CMAC of a message of one whole block (SP 800-38B section 6.2)
-unfoldable pub cmac_of_block : (key block : List ℕ) → List ℕ
-cmac_of_block key block = aes key (first_subkey (aes key zero_block) ⊕ block)
-
--- iteration i of the derivation for a context of 12 bytes, whose input is i in two bytes, the label `X`, a zero byte, and the
--- context (SP 800-108r1 section 4.1)
-unfoldable pub derived_block : (key context : List ℕ) (i : ℕ) → List ℕ
-derived_block key context i = cmac_of_block key (to_be_bytes w16 i ++ 88 ∷ 0 ∷ context)
-
--- the file's key, from iterations 1 and 2: the key that XAES-256-GCM derives for a nonce that begins with the context
-abbrev pub derived_key : (key context : List ℕ) → List ℕ
-derived_key key context = derived_block key context 1 ++ derived_block key context 2
+-- The commitment to a key, by the derivation of XAES-256-GCM.
+use Rattle.std.specs.Prelude.{ℕ, List, ◌++◌}
+use Rattle.xaes.specs.Derivation.{derived_block}
 
 -- the commitment to the key, from iterations 3 and 4, which are particular to this format
 abbrev pub commitment : (key context : List ℕ) → List ℕ

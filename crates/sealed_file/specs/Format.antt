@@ -6,7 +6,8 @@ use Rattle.aead_ciphers_base.specs.Bytes.{each_below}
 use Rattle.aead_ciphers_base.specs.Aes.{aes}
 use Rattle.aead_ciphers.specs.Gcm.{gcm_sealed}
 use Rattle.sealed_file.specs.declared.chunk.TheConstants.{CHUNK_LEN}
-use Rattle.sealed_file.specs.Derivation.{commitment, derived_key}
+use Rattle.sealed_file.specs.Derivation.{commitment}
+use Rattle.xaes.specs.Derivation.{derived_key}
 
 -- the length of a chunk that is not the last, and of one that is sealed
 abbrev pub chunk_len : ℕ

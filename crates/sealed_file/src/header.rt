@@ -6,7 +6,7 @@ ghost use Rattle.sealed_file.specs.Opening.{HasHeader, chunk_key, header_of};
 ghost use Rattle.sealed_file.specs.Refusals.{HeaderRefuses, IsVersion, VersionRefuses};
 
 use crate::aad::ChunkAad;
-use crate::derivation::{commitment, derived_key};
+use crate::derivation::commitment;
 use crate::error::FileError;
 use crate::key::FileKey;
 use crate::random::FileRandom;
@@ -15,6 +15,7 @@ use aead_ciphers_base::aes::AES_256_KEY_LEN;
 use aead_ciphers_base::bb;
 use aead_ciphers_wide::aead::LessSafeKey;
 use std::marker::Model;
+pub use xaes::{CONTEXT_LEN, Context};
 
 /// The first bytes of a sealed file.
 pub const MAGIC: [u8; 8] = *b"SEALFILE";
@@ -28,9 +29,6 @@ const VERSION_AT: usize = 8;
 /// The length of the magic and the version, in bytes.
 pub(crate) const FRONT_LEN: usize = VERSION_AT + 1;
 
-/// The length in bytes of the context, which the key of a file is derived from.
-pub const CONTEXT_LEN: usize = 12;
-
 /// The length in bytes of the prefix of a file's nonces.
 pub const PREFIX_LEN: usize = 7;
 
@@ -42,9 +40,6 @@ const COMMITMENT_LEN: usize = AES_256_KEY_LEN;
 
 /// The length in bytes of a header: the magic, the version, the random bytes and the commitment to the key.
 pub const HEADER_LEN: usize = FRONT_LEN + RANDOM_LEN + COMMITMENT_LEN;
-
-/// The context that the key of a file is derived from, along with the user's key.
-pub type Context = [u8; CONTEXT_LEN];
 
 /// The prefix of a file's nonces.
 pub(crate) type Prefix = [u8; PREFIX_LEN];
@@ -97,10 +92,10 @@ impl ChunkCipher {
     {
         let random = random.as_bytes();
         let context = context_of(random);
-        let cmac = key.cmac();
-        let header = header_with(version, random, &commitment(&cmac, &context));
+        let xaes = key.xaes();
+        let header = header_with(version, random, &commitment(&xaes, &context));
         ChunkCipher {
-            key: aead_key(&derived_key(&cmac, &context)),
+            key: aead_key(&xaes.derived_key(&context)),
             prefix: prefix_of(random),
             header,
             aad: ChunkAad::new(&header, aad),

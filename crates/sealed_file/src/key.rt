@@ -2,12 +2,12 @@
 
 ghost use Rattle.std.specs.Prelude.{[], ◌≡◌, ◌↔◌, length, IsOk, IsTrue, IfOk, IfErr};
 
-use crate::derivation::{Cmac, commitment, derived_key};
+use crate::derivation::commitment;
 use crate::error::FileError;
 use crate::header::{Context, VERSION, cipher_of};
-use aead_ciphers_base::aes::{AES_256_KEY_LEN, KeyBytes};
-use aead_ciphers_wide::aes;
+use aead_ciphers_base::aes::AES_256_KEY_LEN;
 use std::marker::Model;
+use xaes::Xaes256Gcm;
 
 /// A key of 32 bytes. The key of each file is derived from it.
 #[derive(Drop)]
@@ -24,9 +24,10 @@ impl Model for FileKey {
 }
 
 impl FileKey {
-    ghost use Rattle.sealed_file.specs.Derivation.{commitment, derived_key};
+    ghost use Rattle.sealed_file.specs.Derivation.{commitment};
     ghost use Rattle.sealed_file.specs.Format.{secret};
     ghost use Rattle.sealed_file.specs.Opening.{HasHeader, header_of};
+    ghost use Rattle.xaes.specs.Derivation.{derived_key};
 
     /// Creates a key from 32 bytes.
     ///
@@ -40,14 +41,11 @@ impl FileKey {
         Ok(FileKey { bytes: *bytes })
     }
 
-    /// CMAC under this key, which derives the keys of files.
-    pub(crate) fn cmac(&self) -> Cmac
+    /// The key of XAES-256-GCM with the same bytes, which derives the keys of files.
+    pub(crate) fn xaes(&self) -> Xaes256Gcm
         ensures { result ≡ self.now }
     {
-        match aes::Key::new(KeyBytes::AES_256(&self.bytes)) {
-            Ok(cipher) => Cmac::new(cipher),
-            Err(_) => unreachable!(),
-        }
+        Xaes256Gcm::new(&self.bytes)
     }
 
     /// Returns the AES-256-GCM key of the files whose random bytes begin with this context. It is the key that
@@ -55,7 +53,7 @@ impl FileKey {
     pub fn derived_key(&self, context: &Context) -> [u8; AES_256_KEY_LEN]
         ensures { result ≡ derived_key self.now context.now }
     {
-        derived_key(&self.cmac(), context)
+        self.xaes().derived_key(context)
     }
 
     /// Returns whether the file that begins with these bytes has the header that is defined for this key: its commitment is that of
@@ -70,6 +68,6 @@ impl FileKey {
     pub fn commitment(&self, context: &Context) -> [u8; AES_256_KEY_LEN]
         ensures { result ≡ commitment self.now context.now }
     {
-        commitment(&self.cmac(), context)
+        commitment(&self.xaes(), context)
     }
 }

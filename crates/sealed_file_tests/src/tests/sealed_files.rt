@@ -3,7 +3,6 @@
 ghost use Rattle.std.specs.Prelude.{◌≤◌, length};
 
 use crate::tests::checks::{displays, equal, holds, same};
-use aead_ciphers::aead::{AES_256_GCM, Aad, LessSafeKey, Nonce, UnboundKey};
 use md5::{Digest, Md5};
 use sealed_file::{
     CHUNK_LEN, FileError, FileKey, FileRandom, HEADER_LEN, SEALED_CHUNK_LEN, open, open_bytes,
@@ -422,44 +421,24 @@ fn each_failed_call_ends_it(rt: HostRuntime) -> Result<(), Fail> {
     fails_in_turn(&rt, Action::Open, &sealed, &file)
 }
 
-/// The ciphertext and tag of XAES-256-GCM (test vectors of the C2SP specification) for the plaintext `XAES-256-GCM` and the
-/// nonce `ABCDEFGHIJKLMNOPQRSTUVWX`, with the byte of the key and the AAD.
-const XAES: [(u8, &[u8], &[u8]); 2] = [
-    (
-        1,
-        b"",
-        b"\xce\x54\x6e\xf6\x3c\x9c\xc6\x07\x65\x92\x36\x09\xb3\x3a\
-            \x9a\x19\x74\xe9\x6e\x52\xda\xf2\xfc\xf7\x07\x5e\x22\x71",
-    ),
-    (
-        3,
-        b"c2sp.org/XAES-256-GCM",
-        b"\x98\x6e\xc1\x83\x25\x93\xdf\x54\x43\xa1\x79\x43\x7f\xd0\
-            \x83\xbf\x3f\xdb\x41\xab\xd7\x40\xa2\x1f\x71\xeb\x76\x9d",
-    ),
-];
+/// The derived key of the second test vector of XAES-256-GCM (a specification of C2SP), whose key has the bytes 3.
+const DERIVED_KEY: [u8; 32] = *b"\xe9\xc6\x21\xd4\xcd\xd9\xb1\x1b\x00\xa6\x42\x7a\xd7\xe5\x59\xae\
+    \xed\xd6\x6b\x38\x57\x64\x66\x77\x74\x8f\x8c\xa7\x96\xcb\x3f\xd8";
 
-/// Asserts that the derived key seals the plaintext to these bytes.
-fn seals_as_xaes(
-    rt: &impl Abort,
-    key: &FileKey,
-    aad: &[u8],
-    in_out: &mut Vec<u8>,
-    wanted: &[u8],
-) -> Result<(), Fail> {
-    let unbound = UnboundKey::new(&AES_256_GCM, &key.derived_key(b"ABCDEFGHIJKL"))?;
-    let nonce = Nonce::assume_unique_for_key(*b"MNOPQRSTUVWX");
-    LessSafeKey::new(unbound).seal_in_place_append_tag(nonce, Aad::from(aad), in_out)?;
-    same(rt, in_out, wanted, "XAES-256-GCM");
-    Ok(())
-}
+/// The commitment to that key for the same context, by python's `cryptography`.
+const COMMITMENT: [u8; 32] = *b"\x6e\xee\xd5\x65\xf0\xc9\xd2\x33\x2b\x86\xa5\x14\x1d\xa7\xa2\x45\
+    \x88\x28\x26\x97\x31\xbf\x51\xd3\xc5\x39\xd6\xfe\x28\xf7\xfd\xda";
 
 #[test]
-fn xaes_vectors(rt: HostRuntime) -> Result<(), Fail> {
-    for (byte, aad, wanted) in &XAES {
-        let mut in_out = b"XAES-256-GCM".to_vec(rt.alloc())?;
-        seals_as_xaes(&rt, &FileKey::new(&[*byte; 32])?, aad, &mut in_out, wanted)?;
-    }
+fn derived_from_a_key(rt: HostRuntime) -> Result<(), Fail> {
+    let key = FileKey::new(&[3; 32])?;
+    same(&rt, &key.derived_key(b"ABCDEFGHIJKL"), &DERIVED_KEY, "key");
+    same(
+        &rt,
+        &key.commitment(b"ABCDEFGHIJKL"),
+        &COMMITMENT,
+        "commitment",
+    );
     Ok(())
 }
 
