@@ -3,3 +3,4 @@ pub mod AesKey
 pub mod NumberedKey
 pub mod TrafficKey
 pub mod Version
+pub mod XaesKey

@@ -25,3 +25,6 @@ mod secret_tests;
 mod tests;
 mod traffic_key;
 mod version;
+mod xaes_key;
+#[cfg(test)]
+mod xaes_key_tests;
