@@ -9,6 +9,13 @@ pub(crate) struct Key {
     pub(crate) words: [u64; 399],
 }
 
+/// `deerlapse_xaes`.
+#[repr(C)]
+#[derive(Clone)]
+pub(crate) struct Xaes {
+    pub(crate) words: [u64; 33],
+}
+
 /// `deerlapse_message`.
 #[repr(C)]
 pub(crate) struct Message {
@@ -193,6 +200,86 @@ functions! {
         tag: &mut [u8; 16],
     ) -> bool;
 
+    fn xaes_init(key: &mut Xaes, bytes: &[u8; 32]);
+
+    fn xaes_seal(
+        key: &Xaes,
+        nonce: &[u8; 24],
+        aad: *const u8,
+        aad_len: usize,
+        in_out: *mut u8,
+        in_out_len: usize,
+        tag: &mut [u8; 16],
+    ) -> bool;
+
+    fn xaes_open(
+        key: &Xaes,
+        nonce: &[u8; 24],
+        aad: *const u8,
+        aad_len: usize,
+        in_out: *mut u8,
+        in_out_len: usize,
+        start: usize,
+        plaintext_len: &mut usize,
+    ) -> bool;
+
+    fn xaes_open_separate_tag(
+        key: &Xaes,
+        nonce: &[u8; 24],
+        aad: *const u8,
+        aad_len: usize,
+        in_out: *mut u8,
+        in_out_len: usize,
+        start: usize,
+        tag: &[u8; 16],
+    ) -> bool;
+
+    fn xaes_seal_to_sized(
+        key: &Xaes,
+        nonce: &[u8; 24],
+        aad: *const u8,
+        aad_len: usize,
+        message: *const u8,
+        message_len: usize,
+        out: *mut u8,
+        out_len: usize,
+        tag: &mut [u8; 16],
+    ) -> bool;
+
+    fn xaes_open_to_sized(
+        key: &Xaes,
+        nonce: &[u8; 24],
+        aad: *const u8,
+        aad_len: usize,
+        ciphertext: *const u8,
+        ciphertext_len: usize,
+        out: *mut u8,
+        out_len: usize,
+        tag: &[u8; 16],
+    ) -> bool;
+
+    fn xaes_seal_append_tag_sized(
+        key: &Xaes,
+        nonce: &[u8; 24],
+        aad: *const u8,
+        aad_len: usize,
+        message: *const u8,
+        message_len: usize,
+        out: *mut u8,
+        out_len: usize,
+    ) -> bool;
+
+    fn xaes_open_appended_tag_sized(
+        key: &Xaes,
+        nonce: &[u8; 24],
+        aad: *const u8,
+        aad_len: usize,
+        ciphertext_and_tag: *const u8,
+        ciphertext_and_tag_len: usize,
+        out: *mut u8,
+        out_len: usize,
+    ) -> bool;
+
     fn sealer_init(
         sealer: &mut Sealer,
         key: *const u8,
@@ -373,6 +460,8 @@ functions! {
     fn key_mask(key: &Key, sample: &[u8; 16], mask: &mut [u8; 5]) -> bool;
 
     fn key_wipe(key: &mut Key);
+
+    fn xaes_wipe(key: &mut Xaes);
 
     fn sealer_next(sealer: &Sealer) -> u64;
 

@@ -3,7 +3,7 @@
 use crate::asm::{tests::say, TEXTS};
 use crate::{
     cpu, nonce_of, HeaderProtectionKey, LessSafeKey, Opener, QuicKey, QuicVersion, RecordKey,
-    Sealer, Unspecified,
+    Sealer, Unspecified, Xaes256Gcm, XaesNonce,
 };
 use std::error::Error;
 use std::sync::atomic::Ordering;
@@ -62,6 +62,30 @@ fn sealed(made: u8, used: u8, key_bytes: &[u8], message: &[u8]) -> Result<Vec<u8
     Ok(sealed)
 }
 
+/// What is sealed under a key of XAES-256-GCM that is made at one level and used at another. It is opened at each.
+fn sealed_by_xaes(
+    made: u8,
+    used: u8,
+    key_bytes: &[u8; 32],
+    message: &[u8],
+) -> Result<Vec<u8>, Unspecified> {
+    let nonce = || XaesNonce::assume_unique_for_key([9; 24]);
+    take(made);
+    let key = Xaes256Gcm::new(key_bytes);
+
+    take(used);
+    let mut sealed = message.to_vec();
+    key.seal_in_place_append_tag(nonce(), b"v1", &mut sealed)?;
+
+    for level in [2, 3] {
+        take(level);
+        let mut sealed = sealed.clone();
+        let opened = key.open_in_place(nonce(), b"v1", &mut sealed)?;
+        assert_eq!(opened, message);
+    }
+    Ok(sealed)
+}
+
 /// A payload that is protected as a packet's and as a record's, and a mask, under keys that are made from a secret at one level
 /// and used at another. Each payload is opened at each level.
 fn protected(made: u8, used: u8, secret: &[u8], content: &[u8]) -> Result<Vec<u8>, Unspecified> {
@@ -105,6 +129,11 @@ fn each_pair_of_levels() -> Result<(), Unspecified> {
                 assert_eq!(sealed(made, used, key, message)?, wanted);
             }
         }
+        let key = bytes[100..132].try_into().expect("32 bytes");
+        let wanted = sealed_by_xaes(2, 2, key, message)?;
+        for (made, used) in [(2, 3), (3, 2), (3, 3)] {
+            assert_eq!(sealed_by_xaes(made, used, key, message)?, wanted);
+        }
         for secret_len in [32, 48] {
             let secret = &bytes[100..100 + secret_len];
             let wanted = protected(2, 2, secret, message)?;
@@ -123,11 +152,11 @@ fn each_level() -> Result<(), Box<dyn Error>> {
         return Ok(());
     }
     take(2);
-    let narrow = LessSafeKey::new(&[7; 16])?;
+    let (narrow, narrow_xaes) = (LessSafeKey::new(&[7; 16])?, Xaes256Gcm::new(&[7; 32]));
     take(3);
-    let wide = LessSafeKey::new(&[7; 16])?;
+    let (wide, wide_xaes) = (LessSafeKey::new(&[7; 16])?, Xaes256Gcm::new(&[7; 32]));
     assert!(
-        narrow.0.words != wide.0.words,
+        narrow.0.words != wide.0.words && narrow_xaes.0.words != wide_xaes.0.words,
         "a key says the width of its planes, which is the level's"
     );
     for level in [2, 3] {
@@ -138,6 +167,10 @@ fn each_level() -> Result<(), Box<dyn Error>> {
         vectors::seals_in_pieces()?;
         vectors::threads_share_a_key()?;
         vectors::a_refusal_leaves_the_buffer()?;
+        vectors::seals_and_opens_under_nonces_of_24_bytes()?;
+        vectors::opens_what_it_sealed_under_a_nonce_of_24_bytes()?;
+        vectors::a_changed_byte_in_each_half_of_the_nonce_is_refused()?;
+        vectors::a_refusal_of_a_nonce_of_24_bytes_leaves_the_buffer()?;
         vectors::a_sealer_counts()?;
         vectors::an_opener_counts_what_it_opens()?;
         vectors::a_dropped_key_is_wiped()?;

@@ -28,28 +28,37 @@ mod quic_key;
 mod record_key;
 mod sealer;
 mod streams;
+mod xaes;
 
 pub use cpu::cpu_supported;
 pub use header_key::HeaderProtectionKey;
 pub use hkdf::{hkdf_expand, hkdf_expand_label, hkdf_extract, hmac};
 pub use key::LessSafeKey;
 pub use message::SealingMessage;
-pub use nonce::{nonce_of, Nonce};
+pub use nonce::{nonce_of, Nonce, XaesNonce};
 pub use opener::Opener;
 pub use quic_key::{quic_initial_secrets, quic_next_secret, QuicKey, QuicVersion};
 pub use record_key::{tls_next_secret, RecordKey};
 pub use sealer::Sealer;
 pub use streams::{chacha20, mask_aes, mask_chacha20};
+pub use xaes::Xaes256Gcm;
 
 use core::error::Error;
 use core::fmt;
 
-/// The length of a nonce, in bytes.
+/// The length of a nonce, in bytes. That of XAES-256-GCM is [`XAES_NONCE_LEN`].
 ///
 /// ```
 /// assert_eq!(deerlapse::nonce_of(&[0; 12], 1).as_ref().len(), deerlapse::NONCE_LEN);
 /// ```
 pub const NONCE_LEN: usize = 12;
+
+/// The length of a nonce of XAES-256-GCM, in bytes.
+///
+/// ```
+/// let nonce = deerlapse::XaesNonce::assume_unique_for_key([7; deerlapse::XAES_NONCE_LEN]);
+/// ```
+pub const XAES_NONCE_LEN: usize = 24;
 
 /// The length of a tag, in bytes.
 ///

@@ -1,6 +1,6 @@
 //! Nonces.
 
-use crate::{cpu, ffi, Unspecified, NONCE_LEN};
+use crate::{cpu, ffi, Unspecified, NONCE_LEN, XAES_NONCE_LEN};
 
 /// A nonce of 12 bytes, for one message under a key.
 ///
@@ -52,6 +52,60 @@ impl Nonce {
 
 impl AsRef<[u8; NONCE_LEN]> for Nonce {
     fn as_ref(&self) -> &[u8; NONCE_LEN] {
+        &self.0
+    }
+}
+
+/// A nonce of 24 bytes, for one message under an [`Xaes256Gcm`](crate::Xaes256Gcm).
+///
+/// Random bytes, drawn anew for each message, are one. It moves into the call that uses it, as a [`Nonce`] does.
+///
+/// ```compile_fail
+/// use deerlapse::{Xaes256Gcm, XaesNonce};
+///
+/// let key = Xaes256Gcm::new(&[0; 32]);
+/// let nonce = XaesNonce::assume_unique_for_key([0; 24]);
+/// key.seal_in_place_separate_tag(nonce, b"", &mut [])?;
+/// key.seal_in_place_separate_tag(nonce, b"", &mut [])?;
+/// # Ok::<(), deerlapse::Unspecified>(())
+/// ```
+pub struct XaesNonce([u8; XAES_NONCE_LEN]);
+
+impl XaesNonce {
+    /// Makes a nonce of 24 bytes that no other message under the key was sealed with, which is the caller's
+    /// responsibility.
+    ///
+    /// ```
+    /// use deerlapse::XaesNonce;
+    ///
+    /// assert_eq!(XaesNonce::assume_unique_for_key([7; 24]).as_ref(), &[7; 24]);
+    /// ```
+    #[must_use]
+    pub fn assume_unique_for_key(value: [u8; XAES_NONCE_LEN]) -> Self {
+        XaesNonce(value)
+    }
+
+    /// Makes a nonce as [`assume_unique_for_key`](Self::assume_unique_for_key) does.
+    ///
+    /// # Errors
+    ///
+    /// Fails if `value` does not have 24 bytes.
+    ///
+    /// # Examples
+    ///
+    /// ```
+    /// use deerlapse::XaesNonce;
+    ///
+    /// assert!(XaesNonce::try_assume_unique_for_key(&[7; 24]).is_ok());
+    /// assert!(XaesNonce::try_assume_unique_for_key(&[7; 12]).is_err());
+    /// ```
+    pub fn try_assume_unique_for_key(value: &[u8]) -> Result<Self, Unspecified> {
+        value.try_into().map(XaesNonce).map_err(|_| Unspecified)
+    }
+}
+
+impl AsRef<[u8; XAES_NONCE_LEN]> for XaesNonce {
+    fn as_ref(&self) -> &[u8; XAES_NONCE_LEN] {
         &self.0
     }
 }

@@ -5,7 +5,7 @@ use deerlapse::{
     chacha20, hkdf_expand, hkdf_expand_label, hkdf_extract, hmac, mask_aes, mask_chacha20,
     nonce_of, quic_initial_secrets, quic_next_secret, tls_next_secret, HeaderProtectionKey,
     LessSafeKey, Nonce, Opener, QuicKey, QuicVersion, RecordKey, Sealer, SealingMessage,
-    Unspecified,
+    Unspecified, Xaes256Gcm, XaesNonce,
 };
 use std::error::Error;
 use std::mem::{size_of, MaybeUninit};
@@ -199,6 +199,170 @@ pub fn a_refusal_leaves_the_buffer() -> Result<(), Unspecified> {
         chacha20(&[0; 32], &[0; 12], u32::MAX, &mut [0; 65]),
         Err(Unspecified)
     );
+    Ok(())
+}
+
+/// A vector of XAES-256-GCM: the byte that the key repeats, the AAD, and the ciphertext and tag.
+struct XaesVector {
+    key: u8,
+    aad: &'static [u8],
+    sealed: &'static str,
+}
+
+// C2SP's specification of XAES-256-GCM, section "Test Vectors".
+const XAES_NONCE: [u8; 24] = *b"ABCDEFGHIJKLMNOPQRSTUVWX";
+const XAES_MESSAGE: &[u8] = b"XAES-256-GCM";
+const XAES_VECTORS: [XaesVector; 2] = [
+    XaesVector {
+        key: 1,
+        aad: b"",
+        sealed: "ce546ef63c9cc60765923609b33a9a1974e96e52daf2fcf7075e2271",
+    },
+    XaesVector {
+        key: 3,
+        aad: b"c2sp.org/XAES-256-GCM",
+        sealed: "986ec1832593df5443a179437fd083bf3fdb41abd740a21f71eb769d",
+    },
+];
+
+fn xaes_nonce() -> XaesNonce {
+    XaesNonce::assume_unique_for_key(XAES_NONCE)
+}
+
+#[test]
+pub fn seals_and_opens_under_nonces_of_24_bytes() -> Result<(), Unspecified> {
+    for vector in XAES_VECTORS {
+        let key = Xaes256Gcm::new(&[vector.key; 32]);
+        let (aad, message, sealed) = (vector.aad, XAES_MESSAGE, hex(vector.sealed));
+        let mut buffer = message.to_vec();
+        key.seal_in_place_append_tag(xaes_nonce(), aad, &mut buffer)?;
+        assert_eq!(buffer, sealed);
+        assert_eq!(key.open_in_place(xaes_nonce(), aad, &mut buffer)?, message);
+
+        let mut buffer = [b"123".as_slice(), &sealed].concat();
+        let opened = key.open_within(xaes_nonce(), aad, &mut buffer, 3..)?;
+        assert_eq!(opened, message);
+        assert_eq!(buffer[message.len()..], sealed[message.len() - 3..]);
+
+        let (ciphertext, tag) = sealed.split_at(message.len());
+        let tag = tag.try_into().expect("a tag");
+        let mut buffer = [b"123".as_slice(), ciphertext].concat();
+        let opened = key.open_in_place_separate_tag(xaes_nonce(), aad, tag, &mut buffer, 3..)?;
+        assert_eq!(opened, message);
+        assert_eq!(buffer[message.len()..], ciphertext[message.len() - 3..]);
+
+        let mut out = vec![7; message.len()];
+        assert_eq!(key.seal_to(xaes_nonce(), aad, message, &mut out)?, tag);
+        assert_eq!(out, ciphertext);
+        key.open_to(xaes_nonce(), aad, tag, ciphertext, &mut out)?;
+        assert_eq!(out, message);
+
+        let mut out = vec![7; sealed.len()];
+        key.seal_append_tag_to(xaes_nonce(), aad, message, &mut out)?;
+        assert_eq!(out, sealed);
+        let mut out = vec![7; message.len()];
+        key.open_appended_tag_to(xaes_nonce(), aad, &sealed, &mut out)?;
+        assert_eq!(out, message);
+    }
+    Ok(())
+}
+
+// Messages of each length around those of blocks, and of a packet, by the key and by a clone.
+#[test]
+pub fn opens_what_it_sealed_under_a_nonce_of_24_bytes() -> Result<(), Unspecified> {
+    let key = Xaes256Gcm::new(&[7; 32]);
+    let bytes: Vec<u8> = (0..1350).map(|i| (i * i / 7) as u8).collect();
+    for len in (0..=300).chain([1350]) {
+        let (message, aad) = (&bytes[..len], &bytes[..len % 40]);
+        let nonce = || {
+            let bytes: Vec<u8> = (0..24).map(|i| (i * 7 + len) as u8).collect();
+            XaesNonce::try_assume_unique_for_key(&bytes).expect("24 bytes")
+        };
+        let mut buffer = message.to_vec();
+        key.seal_in_place_append_tag(nonce(), aad, &mut buffer)?;
+        assert_eq!(buffer.len(), len + 16);
+        let mut again = buffer.clone();
+        let opened = key.clone().open_in_place(nonce(), aad, &mut again)?;
+        assert_eq!(opened, message);
+        assert_eq!(key.open_in_place(nonce(), aad, &mut buffer)?, message);
+    }
+    Ok(())
+}
+
+#[test]
+pub fn a_changed_byte_in_each_half_of_the_nonce_is_refused() -> Result<(), Unspecified> {
+    let vector = &XAES_VECTORS[1];
+    let key = Xaes256Gcm::new(&[vector.key; 32]);
+    let sealed = hex(vector.sealed);
+    let mut buffer = sealed.clone();
+    for changed in 0..24 {
+        for bit in 0..8 {
+            let mut nonce = XAES_NONCE;
+            nonce[changed] ^= 1 << bit;
+            let nonce = XaesNonce::assume_unique_for_key(nonce);
+            let opened = key.open_in_place(nonce, vector.aad, &mut buffer);
+            assert_eq!(opened, Err(Unspecified));
+            assert_eq!(buffer, sealed);
+        }
+    }
+    let opened = key.open_in_place(xaes_nonce(), vector.aad, &mut buffer)?;
+    assert_eq!(opened, XAES_MESSAGE);
+    Ok(())
+}
+
+#[test]
+pub fn a_refusal_of_a_nonce_of_24_bytes_leaves_the_buffer() -> Result<(), Unspecified> {
+    let vector = &XAES_VECTORS[1];
+    let key = Xaes256Gcm::new(&[vector.key; 32]);
+    let (aad, sealed) = (vector.aad, hex(vector.sealed));
+    let (ciphertext, tag) = sealed.split_at(XAES_MESSAGE.len());
+    let tag: [u8; 16] = tag.try_into().expect("a tag");
+    for start in [1, sealed.len(), sealed.len() + 1, usize::MAX] {
+        let mut buffer = sealed.clone();
+        let opened = key.open_within(xaes_nonce(), aad, &mut buffer, start..);
+        assert_eq!(opened, Err(Unspecified));
+        let opened = key.open_in_place_separate_tag(xaes_nonce(), aad, tag, &mut buffer, start..);
+        assert_eq!(opened, Err(Unspecified));
+        assert_eq!(buffer, sealed);
+    }
+    for changed in 0..sealed.len() {
+        let mut buffer = sealed.clone();
+        buffer[changed] ^= 1;
+        let was = buffer.clone();
+        let opened = key.open_in_place(xaes_nonce(), aad, &mut buffer);
+        assert_eq!(opened, Err(Unspecified));
+        assert_eq!(buffer, was);
+    }
+    for len in 0..16 {
+        let mut buffer = sealed[..len].to_vec();
+        let opened = key.open_in_place(xaes_nonce(), aad, &mut buffer);
+        assert_eq!(opened, Err(Unspecified));
+    }
+
+    let mut out = [7; 40];
+    for len in [0, 11, 13, 40] {
+        let out = &mut out[..len];
+        let sealing = key.seal_to(xaes_nonce(), aad, XAES_MESSAGE, out);
+        assert_eq!(sealing, Err(Unspecified));
+        let opened = key.open_to(xaes_nonce(), aad, tag, ciphertext, out);
+        assert_eq!(opened, Err(Unspecified));
+        let opened = key.open_appended_tag_to(xaes_nonce(), aad, &sealed, out);
+        assert_eq!(opened, Err(Unspecified));
+    }
+    for len in [0, 12, 27, 29] {
+        let sealing = key.seal_append_tag_to(xaes_nonce(), aad, XAES_MESSAGE, &mut out[..len]);
+        assert_eq!(sealing, Err(Unspecified));
+    }
+    let out_of_12 = &mut out[..12];
+    let opened = key.open_to(xaes_nonce(), b"another", tag, ciphertext, out_of_12);
+    assert_eq!(opened, Err(Unspecified));
+    let opened = key.open_appended_tag_to(xaes_nonce(), b"another", &sealed, out_of_12);
+    assert_eq!(opened, Err(Unspecified));
+    assert_eq!(out, [7; 40]);
+
+    for len in [0, 12, 23, 25] {
+        assert!(XaesNonce::try_assume_unique_for_key(&vec![0; len]).is_err());
+    }
     Ok(())
 }
 
@@ -765,6 +929,11 @@ pub fn a_dropped_key_is_wiped() -> Result<(), Unspecified> {
     assert!(dropped(key).iter().all(|&byte| byte == 0));
     let key = RecordKey::new(&[7; 32], &[7; 12])?;
     assert!(dropped(key).iter().all(|&byte| byte == 0));
+    let key = Xaes256Gcm::new(&[7; 32]);
+    assert!(dropped(key.clone()).iter().all(|&byte| byte == 0));
+    assert!(key
+        .seal_in_place_separate_tag(xaes_nonce(), b"", &mut buffer)
+        .is_ok());
     Ok(())
 }
 
@@ -778,6 +947,7 @@ fn threads_may_have_each_type() {
     may::<HeaderProtectionKey>();
     may::<QuicKey>();
     may::<RecordKey>();
+    may::<Xaes256Gcm>();
 }
 
 #[test]
@@ -819,6 +989,8 @@ fn prints_no_secret() -> Result<(), Box<dyn Error>> {
     assert_eq!(format!("{key:?}"), "QuicKey { .. }");
     let key = RecordKey::new(&[7; 16], &[7; 12])?;
     assert_eq!(format!("{key:?}"), "RecordKey { .. }");
+    let key = Xaes256Gcm::new(&[7; 32]);
+    assert_eq!(format!("{key:?}"), "Xaes256Gcm { .. }");
     let sealer = Sealer::new(&[7; 32], &[7; 12], 3..9)?;
     assert_eq!(format!("{sealer:?}"), "Sealer { numbers_left: 3..9, .. }");
     let opener = Opener::new(&[7; 32], &[7; 12], 3..9)?;
