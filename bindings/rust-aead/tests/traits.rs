@@ -1,8 +1,9 @@
 //! Code that is generic over the traits of `aead`, on standard vectors.
 
-use deerlapse_aead::aead::consts::{U12, U16};
+use deerlapse_aead::aead::consts::{U12, U16, U24};
+use deerlapse_aead::aead::generic_array::ArrayLength;
 use deerlapse_aead::aead::{AeadInPlace, Buffer, Error, KeyInit, Nonce, Tag};
-use deerlapse_aead::{Aes128Gcm, Aes256Gcm};
+use deerlapse_aead::{Aes128Gcm, Aes256Gcm, Xaes256Gcm};
 
 fn hex(digits: &str) -> Vec<u8> {
     (0..digits.len())
@@ -11,7 +12,7 @@ fn hex(digits: &str) -> Vec<u8> {
         .collect()
 }
 
-/// A buffer that grows. The crate has one for `Vec`, under its feature `alloc`.
+/// A buffer that grows. The crate `aead` has one for `Vec`, under its feature `alloc`.
 struct Growing(Vec<u8>);
 
 impl AsRef<[u8]> for Growing {
@@ -38,9 +39,10 @@ impl Buffer for Growing {
 }
 
 /// Encrypts and decrypts with any cipher with these nonce and tag lengths, attached and detached.
-fn run<A>(key: &str, nonce: &str, aad: &str, message: &str, sealed: &str) -> Result<(), Error>
+fn run<A, N>(key: &str, nonce: &str, aad: &str, message: &str, sealed: &str) -> Result<(), Error>
 where
-    A: KeyInit + AeadInPlace<NonceSize = U12, TagSize = U16>,
+    A: KeyInit + AeadInPlace<NonceSize = N, TagSize = U16>,
+    N: ArrayLength<u8>,
 {
     let cipher = A::new_from_slice(&hex(key)).expect("a key of the cipher's length");
     let (aad, message, sealed) = (hex(aad), hex(message), hex(sealed));
@@ -82,7 +84,7 @@ fn aes_128_gcm() -> Result<(), Error> {
     let key = "feffe9928665731c6d6a8f9467308308";
     let sealed = "42831ec2217774244b7221b784d0d49ce3aa212f2c02a4e035c17e2329aca12e\
         21d514b25466931c7d8f6a5aac84aa051ba30b396a0aac973d58e0915bc94fbc3221a5db94fae95ae7121a47";
-    run::<Aes128Gcm>(key, NONCE, AAD, MESSAGE, sealed)
+    run::<Aes128Gcm, U12>(key, NONCE, AAD, MESSAGE, sealed)
 }
 
 #[test]
@@ -90,5 +92,28 @@ fn aes_256_gcm() -> Result<(), Error> {
     let key = "feffe9928665731c6d6a8f9467308308feffe9928665731c6d6a8f9467308308";
     let sealed = "522dc1f099567d07f47f37a32a84427d643a8cdcbfe5c0c97598a2bd2555d1aa\
         8cb08e48590dbb3da7b08b1056828838c5f61e6393ba7a0abcc9f66276fc6ece0f4e1768cddf8853bb2d551b";
-    run::<Aes256Gcm>(key, NONCE, AAD, MESSAGE, sealed)
+    run::<Aes256Gcm, U12>(key, NONCE, AAD, MESSAGE, sealed)
+}
+
+// C2SP's specification of XAES-256-GCM, section "Test Vectors".
+#[test]
+fn xaes_256_gcm() -> Result<(), Error> {
+    let nonce = "4142434445464748494a4b4c4d4e4f505152535455565758"; // ABCDEFGHIJKLMNOPQRSTUVWX
+    let message = "584145532d3235362d47434d"; // XAES-256-GCM
+    let aad = "633273702e6f72672f584145532d3235362d47434d"; // c2sp.org/XAES-256-GCM
+    for (key, aad, sealed) in [
+        (
+            "01",
+            "",
+            "ce546ef63c9cc60765923609b33a9a1974e96e52daf2fcf7075e2271",
+        ),
+        (
+            "03",
+            aad,
+            "986ec1832593df5443a179437fd083bf3fdb41abd740a21f71eb769d",
+        ),
+    ] {
+        run::<Xaes256Gcm, U24>(&key.repeat(32), nonce, aad, message, sealed)?;
+    }
+    Ok(())
 }
