@@ -91,7 +91,7 @@ impl<'a> KeyBytes<'a> {
 ///
 /// # Examples
 ///
-/// CMAC of one block, under a key whose first subkey is kept. From `crates/sealed_file/src/derivation.rt`:
+/// CMAC of one block, under a key whose first subkey is kept. From `crates/xaes/src/cmac.rt`:
 ///
 /// ```
 /// fn of_block(&self, block: Block) -> Block

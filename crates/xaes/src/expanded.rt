@@ -85,7 +85,7 @@ impl ExpandedKey {
 
     /// Overwrites `message_key` with the expansion of the AES-256-GCM key that is derived for the first half of this nonce, and
     /// returns the last half, which is the nonce of AES-256-GCM.
-    pub(crate) fn expand_message_key(
+    pub fn expand_message_key(
         &self,
         nonce: XNonce,
         message_key: &mut aes_gcm::ExpandedKey,
