@@ -41,6 +41,14 @@ COUNTED(opened[MESSAGES], deerlapse_key_open_separate_tag,
         (const void *key, const uint8_t *nonce, const uint8_t *aad, size_t aad_len, uint8_t *in_out, size_t in_out_len,
          size_t start, const uint8_t *tag),
         (key, nonce, aad, aad_len, in_out, in_out_len, start, tag))
+COUNTED(sealed[MESSAGES], deerlapse_xaes_seal,
+        (const void *key, const uint8_t *nonce, const uint8_t *aad, size_t aad_len, uint8_t *in_out, size_t in_out_len,
+         uint8_t *tag),
+        (key, nonce, aad, aad_len, in_out, in_out_len, tag))
+COUNTED(opened[MESSAGES], deerlapse_xaes_open_separate_tag,
+        (const void *key, const uint8_t *nonce, const uint8_t *aad, size_t aad_len, uint8_t *in_out, size_t in_out_len,
+         size_t start, const uint8_t *tag),
+        (key, nonce, aad, aad_len, in_out, in_out_len, start, tag))
 COUNTED(sealed[MESSAGES], deerlapse_sealer_seal,
         (void *sealer, const uint8_t *aad, size_t aad_len, uint8_t *in_out, size_t in_out_len, uint8_t *tag),
         (sealer, aad, aad_len, in_out, in_out_len, tag))
