@@ -20,17 +20,41 @@
 #define THREADS 8
 #define SHARED 40
 
-/* A key, an IV and a number, whose nonce is both of them, an AAD and a message, with what is expected of them. */
+/* A key, an IV and a number, whose nonce is both of them, an AAD and a message, with what is expected of them: of AES-GCM, or of
+ * XAES-256-GCM. */
 typedef struct {
-    uint8_t key[32], iv[NONCE], nonce[NONCE], aad[MAX_AAD];
-    size_t key_len, aad_len, len;
+    bool is_xaes;
+    uint8_t key[32], iv[XAES_NONCE], nonce[XAES_NONCE], aad[MAX_AAD];
+    size_t key_len, nonce_len, aad_len, len;
     uint64_t number;
     uint8_t message[MAX_MESSAGE], sealed[MAX_MESSAGE + TAG];
 } sealing;
 
 static void set_nonce(sealing *s) {
-    memcpy(s->nonce, s->iv, NONCE);
-    for (int i = 0; i < 8; i++) s->nonce[4 + i] ^= (uint8_t)(s->number >> (56 - 8 * i));
+    memcpy(s->nonce, s->iv, XAES_NONCE);
+    for (int i = 0; i < 8; i++) s->nonce[s->nonce_len - 8 + (size_t)i] ^= (uint8_t)(s->number >> (56 - 8 * i));
+}
+
+/* An expanded key of either. The calls under both have the same names but for one word, and do the same. */
+typedef union {
+    deerlapse_key gcm;
+    deerlapse_xaes xaes;
+} expanded;
+
+#define UNCOUNTED(its, s, call, ...)                                            \
+    ((s)->is_xaes ? deerlapse_xaes_##call(&(its)->xaes, (s)->nonce, __VA_ARGS__) \
+                  : deerlapse_key_##call(&(its)->gcm, (s)->nonce, __VA_ARGS__))
+#define UNDER(its, s, ...) CALL(UNCOUNTED(its, s, __VA_ARGS__))
+
+static void expand(expanded *key, const sealing *s) {
+    memset(key, 0x5a, sizeof *key);
+    if (s->is_xaes) CALL(deerlapse_xaes_init(&key->xaes, s->key));
+    else CHECK(CALL(deerlapse_key_init(&key->gcm, s->key, s->key_len)));
+}
+
+static void wipe(expanded *key, const sealing *s) {
+    if (s->is_xaes) CALL(deerlapse_xaes_wipe(&key->xaes));
+    else CALL(deerlapse_key_wipe(&key->gcm));
 }
 
 #ifdef HASHED
@@ -42,8 +66,15 @@ static void absorb(const uint8_t *bytes, size_t len) {
 }
 
 static void expect_sealed(sealing *s) {
+    uint8_t *tag = s->sealed + s->len;
     memcpy(s->sealed, s->message, s->len);
-    CHECK(deerlapse_seal(s->key, s->key_len, s->nonce, s->aad, s->aad_len, s->sealed, s->len, s->sealed + s->len));
+    if (s->is_xaes) {
+        deerlapse_xaes key;
+        deerlapse_xaes_init(&key, s->key);
+        CHECK(deerlapse_xaes_seal(&key, s->nonce, s->aad, s->aad_len, s->sealed, s->len, tag));
+    } else {
+        CHECK(deerlapse_seal(s->key, s->key_len, s->nonce, s->aad, s->aad_len, s->sealed, s->len, tag));
+    }
     absorb(s->sealed, s->len + TAG);
 }
 
@@ -68,22 +99,41 @@ static EVP_CIPHER_CTX *started(const EVP_CIPHER *cipher, const uint8_t *key, con
     return context;
 }
 
-static void expect_sealed(sealing *s) {
-    const EVP_CIPHER *cipher = s->key_len == 16 ? EVP_aes_128_gcm() : EVP_aes_256_gcm();
-    EVP_CIPHER_CTX *context = started(cipher, s->key, s->nonce);
-    int written = 0;
-    if (s->aad_len) CHECK(EVP_EncryptUpdate(context, NULL, &written, s->aad, (int)s->aad_len) == 1);
-    if (s->len) CHECK(EVP_EncryptUpdate(context, s->sealed, &written, s->message, (int)s->len) == 1);
-    CHECK(EVP_EncryptFinal_ex(context, s->sealed + s->len, &written) == 1);
-    CHECK(EVP_CIPHER_CTX_ctrl(context, EVP_CTRL_GCM_GET_TAG, TAG, s->sealed + s->len) == 1);
-    EVP_CIPHER_CTX_free(context);
-}
-
 /* Encrypts in place, without padding. */
 static void encrypt(const EVP_CIPHER *cipher, const uint8_t *key, const uint8_t *iv, uint8_t *in_out, size_t len) {
     int written;
     EVP_CIPHER_CTX *context = started(cipher, key, iv);
     CHECK(EVP_EncryptUpdate(context, in_out, &written, in_out, (int)len) == 1);
+    EVP_CIPHER_CTX_free(context);
+}
+
+/* The key of a message of XAES-256-GCM (c2sp.org/XAES-256-GCM): AES-256 of M1 XOR K1 and of M2 XOR K1, where K1 is CMAC's first
+ * subkey (SP 800-38B section 6.1), and M1 and M2 are 00 01 58 00 and 00 02 58 00, each before the first 12 bytes of the nonce. */
+static void derive(const uint8_t key[32], const uint8_t nonce[XAES_NONCE], uint8_t derived[32]) {
+    uint8_t k1[16] = {0}, m[] = {0, 0, 'X', 0};
+    encrypt(EVP_aes_256_ecb(), key, NULL, k1, sizeof k1);
+    unsigned first_bit = k1[0] >> 7;
+    for (int i = 0; i < 16; i++) k1[i] = (uint8_t)(k1[i] << 1 | (i < 15 ? k1[i + 1] >> 7 : 0));
+    if (first_bit) k1[15] ^= 0x87;
+    for (uint8_t *block = derived; block < derived + 32; block += 16) {
+        m[1]++;
+        memcpy(block, m, sizeof m);
+        memcpy(block + sizeof m, nonce, 12);
+        for (int i = 0; i < 16; i++) block[i] ^= k1[i];
+    }
+    encrypt(EVP_aes_256_ecb(), key, NULL, derived, 32);
+}
+
+static void expect_sealed(sealing *s) {
+    const EVP_CIPHER *cipher = s->key_len == 16 ? EVP_aes_128_gcm() : EVP_aes_256_gcm();
+    uint8_t derived[32];
+    if (s->is_xaes) derive(s->key, s->nonce, derived);
+    EVP_CIPHER_CTX *context = started(cipher, s->is_xaes ? derived : s->key, s->nonce + s->nonce_len - NONCE);
+    int written = 0;
+    if (s->aad_len) CHECK(EVP_EncryptUpdate(context, NULL, &written, s->aad, (int)s->aad_len) == 1);
+    if (s->len) CHECK(EVP_EncryptUpdate(context, s->sealed, &written, s->message, (int)s->len) == 1);
+    CHECK(EVP_EncryptFinal_ex(context, s->sealed + s->len, &written) == 1);
+    CHECK(EVP_CIPHER_CTX_ctrl(context, EVP_CTRL_GCM_GET_TAG, TAG, s->sealed + s->len) == 1);
     EVP_CIPHER_CTX_free(context);
 }
 
@@ -108,8 +158,10 @@ static void expect_stream(const sealing *s, uint32_t counter, uint8_t *in_out) {
 #endif
 
 /* Each length up to 299 first, then the greatest, those around a chunk of 192 blocks, and then random ones. */
-static void make_sealing(sealing *s, size_t round) {
-    s->key_len = below(2) ? 16 : 32;
+static void make_sealing(sealing *s, size_t round, bool is_xaes) {
+    s->is_xaes = is_xaes;
+    s->key_len = below(2) && !is_xaes ? 16 : 32;
+    s->nonce_len = is_xaes ? XAES_NONCE : NONCE;
     s->aad_len = below(4) ? below(MAX_AAD) : 0;
     s->len = below(4) ? below(2000) : below(MAX_MESSAGE + 1);
     if (round < 300) s->len = round;
@@ -118,7 +170,7 @@ static void make_sealing(sealing *s, size_t round) {
     s->number = below(4) ? next_random() : below(4);
     if (s->number > UINT64_MAX - 3 || below(8) == 0) s->number = UINT64_MAX - 3;
     fill(s->key, sizeof s->key);
-    fill(s->iv, NONCE);
+    fill(s->iv, XAES_NONCE);
     fill(s->aad, s->aad_len);
     fill(s->message, s->len);
     set_nonce(s);
@@ -133,11 +185,10 @@ static bool seal_once(const sealing *s, const uint8_t *aad, uint8_t *in_out, uin
 }
 
 static bool seal_by_key(const sealing *s, const uint8_t *aad, uint8_t *in_out, uint8_t *tag) {
-    deerlapse_key key, was;
-    memset(&key, 0x5a, sizeof key);
-    CHECK(CALL(deerlapse_key_init(&key, s->key, s->key_len)));
+    expanded key, was;
+    expand(&key, s);
     was = key;
-    bool answer = CALL(deerlapse_key_seal(&key, s->nonce, aad, s->aad_len, in_out, s->len, tag));
+    bool answer = UNDER(&key, s, seal, aad, s->aad_len, in_out, s->len, tag);
     CHECK(SAME(key, was));
     return answer;
 }
@@ -181,8 +232,9 @@ static bool seal_in_pieces(const sealing *s, const uint8_t *aad, uint8_t *in_out
     return true;
 }
 
-static seal_way *const seal_ways[] = {seal_once, seal_by_key, seal_by_sealer, seal_in_pieces};
-enum { SEAL_WAYS = sizeof seal_ways / sizeof seal_ways[0] };
+/* Of XAES-256-GCM there is the first. */
+static seal_way *const seal_ways[] = {seal_by_key, seal_once, seal_by_sealer, seal_in_pieces};
+static int seal_ways_of(const sealing *s) { return s->is_xaes ? 1 : (int)(sizeof seal_ways / sizeof seal_ways[0]); }
 
 /* The tag right after the message, and apart. */
 static void seals(const sealing *s, seal_way *way) {
@@ -207,10 +259,10 @@ static bool open_once(const sealing *s, const uint8_t *aad, uint8_t *in_out, siz
 }
 
 static bool open_by_key(const sealing *s, const uint8_t *aad, uint8_t *in_out, size_t all, size_t at, size_t *len) {
-    deerlapse_key key, was;
-    CHECK(CALL(deerlapse_key_init(&key, s->key, s->key_len)));
+    expanded key, was;
+    expand(&key, s);
     was = key;
-    bool answer = CALL(deerlapse_key_open(&key, s->nonce, aad, s->aad_len, in_out, all, at, len));
+    bool answer = UNDER(&key, s, open, aad, s->aad_len, in_out, all, at, len);
     CHECK(SAME(key, was));
     return answer;
 }
@@ -238,8 +290,9 @@ static bool open_by_number(const sealing *s, const uint8_t *aad, uint8_t *in_out
     return answer;
 }
 
-static open_way *const open_ways[] = {open_once, open_by_key, open_in_order, open_by_number};
-enum { OPEN_WAYS = sizeof open_ways / sizeof open_ways[0] };
+/* Of XAES-256-GCM there is the first. */
+static open_way *const open_ways[] = {open_by_key, open_once, open_in_order, open_by_number};
+static int open_ways_of(const sealing *s) { return s->is_xaes ? 1 : (int)(sizeof open_ways / sizeof open_ways[0]); }
 
 /* Opens `start` bytes, ciphertext and tag. */
 static void opens(const sealing *s, open_way *way, size_t start) {
@@ -277,10 +330,12 @@ static void refuses(const sealing *s, open_way *way) {
     memcpy(changed.sealed, s->sealed, all);
     flip_a_bit(changed.sealed + s->len, TAG);
     refuses_to_open(s, way, changed.sealed, all, 0);
-    flip_a_bit(changed.iv, NONCE);
-    set_nonce(&changed);
-    refuses_to_open(&changed, way, s->sealed, all, 0);
-    memcpy(changed.iv, s->iv, NONCE);
+    for (size_t half = 0; half < 2; half++) {
+        flip_a_bit(changed.iv + half * s->nonce_len / 2, s->nonce_len / 2);
+        set_nonce(&changed);
+        refuses_to_open(&changed, way, s->sealed, all, 0);
+        memcpy(changed.iv, s->iv, XAES_NONCE);
+    }
     changed.number++;
     set_nonce(&changed);
     refuses_to_open(&changed, way, s->sealed, all, 0);
@@ -289,8 +344,8 @@ static void refuses(const sealing *s, open_way *way) {
     flip_a_bit(changed.key, s->key_len);
     refuses_to_open(&changed, way, s->sealed, all, 0);
     memcpy(changed.key, s->key, sizeof s->key);
-    changed.key_len = 48 - s->key_len;
-    refuses_to_open(&changed, way, s->sealed, all, 0);
+    if (!s->is_xaes) changed.key_len = 48 - s->key_len;
+    if (!s->is_xaes) refuses_to_open(&changed, way, s->sealed, all, 0);
     changed.key_len = s->key_len;
     if (s->aad_len) flip_a_bit(changed.aad, s->aad_len);
     else changed.aad_len = 1;
@@ -308,8 +363,8 @@ static bool is_opened(const sealing *s, const uint8_t *found, const uint8_t *byt
 }
 
 /* Opens with the tag apart: in place from a start, and from one buffer to another, which may be the same. `bytes` are a
- * ciphertext of s->len bytes and its tag, and stay where they are only read. */
-static void opens_apart(const deerlapse_key *key, const sealing *s, const uint8_t *bytes, bool right) {
+ * ciphertext of s->len bytes and key tag, and stay where they are only read. */
+static void opens_apart(const expanded *key, const sealing *s, const uint8_t *bytes, bool right) {
     size_t len = s->len, start = below(2) ? below(40) : 0, all = start + len;
     uint8_t *in = guarded(bytes, len), *out = guarded(s->message, len), *tag = guarded(bytes + len, TAG);
     uint8_t *was = malloc(all + 1);
@@ -318,12 +373,12 @@ static void opens_apart(const deerlapse_key *key, const sealing *s, const uint8_
     memcpy(was + start, bytes, len);
     uint8_t *packet = guarded(was, all);
     memset(out, 0x3c, len);
-    CHECK(CALL(deerlapse_key_open_to(key, s->nonce, s->aad, s->aad_len, in, len, out, tag)) == right);
+    CHECK(UNDER(key, s, open_to, s->aad, s->aad_len, in, len, out, tag) == right);
     CHECK(memcmp(in, bytes, len) == 0);
     for (size_t i = 0; i < len; i++) CHECK(out[i] == (right ? s->message[i] : 0x3c));
-    CHECK(CALL(deerlapse_key_open_separate_tag(key, s->nonce, s->aad, s->aad_len, packet, all, start, tag)) == right);
+    CHECK(UNDER(key, s, open_separate_tag, s->aad, s->aad_len, packet, all, start, tag) == right);
     CHECK(is_opened(s, packet, was, all, right));
-    CHECK(CALL(deerlapse_key_open_to(key, s->nonce, s->aad, s->aad_len, in, len, in, tag)) == right);
+    CHECK(UNDER(key, s, open_to, s->aad, s->aad_len, in, len, in, tag) == right);
     CHECK(is_opened(s, in, bytes, len, right) && memcmp(tag, bytes + len, TAG) == 0);
     release(packet, all);
     free(was);
@@ -333,44 +388,44 @@ static void opens_apart(const deerlapse_key *key, const sealing *s, const uint8_
 }
 
 /* Opens with the tag after the ciphertext, from one buffer to another and in place. */
-static void opens_appended(const deerlapse_key *key, const sealing *s, const uint8_t *bytes, bool right) {
+static void opens_appended(const expanded *key, const sealing *s, const uint8_t *bytes, bool right) {
     size_t len = s->len, all = len + TAG;
     uint8_t *in = guarded(bytes, all), *out = guarded(s->message, len);
     memset(out, 0x3c, len);
-    CHECK(CALL(deerlapse_key_open_appended_tag(key, s->nonce, s->aad, s->aad_len, in, all, out)) == right);
+    CHECK(UNDER(key, s, open_appended_tag, s->aad, s->aad_len, in, all, out) == right);
     CHECK(memcmp(in, bytes, all) == 0);
     for (size_t i = 0; i < len; i++) CHECK(out[i] == (right ? s->message[i] : 0x3c));
-    CHECK(CALL(deerlapse_key_open_appended_tag(key, s->nonce, s->aad, s->aad_len, in, all, in)) == right);
+    CHECK(UNDER(key, s, open_appended_tag, s->aad, s->aad_len, in, all, in) == right);
     CHECK(is_opened(s, in, bytes, all, right));
     release(out, len);
     release(in, all);
 }
 
 /* Two lengths that don't fit, and a key of zeros: the functions of the library take that of `out`. */
-static void refuses_sized(const deerlapse_key *key, const sealing *s, size_t out_len) {
+static void refuses_sized(const expanded *key, const sealing *s, size_t out_len) {
     size_t all = s->len + TAG;
     uint8_t *in = guarded(s->sealed, all), *out = guarded(s->sealed, out_len), tag[TAG];
     memcpy(tag, s->sealed + s->len, TAG);
-    CHECK(!CALL(deerlapse_key_seal_to_sized(key, s->nonce, s->aad, s->aad_len, in, s->len, out, out_len, tag)));
-    CHECK(!CALL(deerlapse_key_open_to_sized(key, s->nonce, s->aad, s->aad_len, in, s->len, out, out_len, tag)));
-    CHECK(!CALL(deerlapse_key_open_appended_tag_sized(key, s->nonce, s->aad, s->aad_len, in, all, out, out_len)));
+    CHECK(!UNDER(key, s, seal_to_sized, s->aad, s->aad_len, in, s->len, out, out_len, tag));
+    CHECK(!UNDER(key, s, open_to_sized, s->aad, s->aad_len, in, s->len, out, out_len, tag));
+    CHECK(!UNDER(key, s, open_appended_tag_sized, s->aad, s->aad_len, in, all, out, out_len));
     CHECK(memcmp(in, s->sealed, all) == 0 && memcmp(out, s->sealed, out_len) == 0);
     CHECK(memcmp(tag, s->sealed + s->len, TAG) == 0);
     release(out, out_len);
     release(in, all);
 }
 
-static void refuses_append_sized(const deerlapse_key *key, const sealing *s, size_t out_len) {
+static void refuses_append_sized(const expanded *key, const sealing *s, size_t out_len) {
     uint8_t *in = guarded(s->message, s->len), *out = guarded(s->sealed, out_len);
-    CHECK(!CALL(deerlapse_key_seal_append_tag_sized(key, s->nonce, s->aad, s->aad_len, in, s->len, out, out_len)));
+    CHECK(!UNDER(key, s, seal_append_tag_sized, s->aad, s->aad_len, in, s->len, out, out_len));
     CHECK(memcmp(in, s->message, s->len) == 0 && memcmp(out, s->sealed, out_len) == 0);
     release(out, out_len);
     release(in, s->len);
 }
 
 /* A ciphertext and tag, and the same with a bit of either flipped, under a key and under one of zeros. */
-static void opens_elsewhere(const deerlapse_key *key, const sealing *s) {
-    static const deerlapse_key no_key;
+static void opens_elsewhere(const expanded *key, const sealing *s) {
+    static const expanded no_key;
     static uint8_t changed[MAX_MESSAGE + TAG];
     size_t all = s->len + TAG;
     opens_apart(key, s, s->sealed, true);
@@ -387,22 +442,22 @@ static void opens_elsewhere(const deerlapse_key *key, const sealing *s) {
 }
 
 /* From one buffer to another, and in place. What is only read stays. */
-static void seals_elsewhere(const deerlapse_key *key, const sealing *s) {
+static void seals_elsewhere(const expanded *key, const sealing *s) {
     size_t all = s->len + TAG;
     uint8_t *in = guarded(s->message, s->len), *out = guarded(s->sealed, s->len), *tag = guarded(s->message, TAG);
     uint8_t *both = guarded(s->sealed, all);
     memset(out, 0x3c, s->len);
-    CHECK(CALL(deerlapse_key_seal_to(key, s->nonce, s->aad, s->aad_len, in, s->len, out, tag)));
+    CHECK(UNDER(key, s, seal_to, s->aad, s->aad_len, in, s->len, out, tag));
     CHECK(memcmp(out, s->sealed, s->len) == 0 && memcmp(tag, s->sealed + s->len, TAG) == 0);
     memset(both, 0x3c, all);
-    CHECK(CALL(deerlapse_key_seal_append_tag(key, s->nonce, s->aad, s->aad_len, in, s->len, both)));
+    CHECK(UNDER(key, s, seal_append_tag, s->aad, s->aad_len, in, s->len, both));
     CHECK(memcmp(both, s->sealed, all) == 0 && memcmp(in, s->message, s->len) == 0);
     memcpy(both, s->message, s->len);
     memset(both + s->len, 0x3c, TAG);
-    CHECK(CALL(deerlapse_key_seal_append_tag(key, s->nonce, s->aad, s->aad_len, both, s->len, both)));
+    CHECK(UNDER(key, s, seal_append_tag, s->aad, s->aad_len, both, s->len, both));
     CHECK(memcmp(both, s->sealed, all) == 0);
     memset(tag, 0, TAG);
-    CHECK(CALL(deerlapse_key_seal_to(key, s->nonce, s->aad, s->aad_len, in, s->len, in, tag)));
+    CHECK(UNDER(key, s, seal_to, s->aad, s->aad_len, in, s->len, in, tag));
     CHECK(memcmp(in, s->sealed, s->len) == 0 && memcmp(tag, s->sealed + s->len, TAG) == 0);
     release(both, all);
     release(tag, TAG);
@@ -411,10 +466,10 @@ static void seals_elsewhere(const deerlapse_key *key, const sealing *s) {
 }
 
 static void elsewhere(const sealing *s) {
-    static const deerlapse_key no_key;
+    static const expanded no_key;
     uint8_t tag[TAG] = {0};
-    deerlapse_key key;
-    CHECK(CALL(deerlapse_key_init(&key, s->key, s->key_len)));
+    expanded key;
+    expand(&key, s);
     seals_elsewhere(&key, s);
     opens_elsewhere(&key, s);
     refuses_sized(&no_key, s, s->len);
@@ -425,9 +480,9 @@ static void elsewhere(const sealing *s) {
         refuses_sized(&key, s, s->len + 1);
         refuses_append_sized(&key, s, s->len + TAG + 1);
     }
-    CHECK(!CALL(deerlapse_key_open_appended_tag(&key, s->nonce, s->aad, s->aad_len, tag, below(TAG), tag)));
-    CHECK(!CALL(deerlapse_key_open_separate_tag(&key, s->nonce, s->aad, s->aad_len, tag, 3, 4 + below(40), s->sealed)));
-    CHECK(!CALL(deerlapse_key_open_separate_tag(&key, s->nonce, s->aad, s->aad_len, tag, 3, SIZE_MAX, s->sealed)));
+    CHECK(!UNDER(&key, s, open_appended_tag, s->aad, s->aad_len, tag, below(TAG), tag));
+    CHECK(!UNDER(&key, s, open_separate_tag, s->aad, s->aad_len, tag, 3, 4 + below(40), s->sealed));
+    CHECK(!UNDER(&key, s, open_separate_tag, s->aad, s->aad_len, tag, 3, SIZE_MAX, s->sealed));
 }
 
 /* Keys of other lengths: each call that takes bytes is refused, and leaves what it has. A key is then zeros. */
@@ -455,32 +510,43 @@ static void refuses_keys(const sealing *s) {
     release(buffer, s->len + TAG);
 }
 
-static void refused_under(const deerlapse_key *key, const sealing *s) {
+static void refused_under(const expanded *key, const sealing *s) {
     uint8_t *buffer = guarded(s->sealed, s->len + TAG);
     size_t all = s->len + TAG, len = UNTOUCHED;
-    CHECK(!CALL(deerlapse_key_seal(key, s->nonce, s->aad, s->aad_len, buffer, s->len, buffer + s->len)));
-    CHECK(!CALL(deerlapse_key_open(key, s->nonce, s->aad, s->aad_len, buffer, all, 0, &len)));
+    CHECK(!UNDER(key, s, seal, s->aad, s->aad_len, buffer, s->len, buffer + s->len));
+    CHECK(!UNDER(key, s, open, s->aad, s->aad_len, buffer, all, 0, &len));
     CHECK(len == UNTOUCHED && memcmp(buffer, s->sealed, all) == 0);
     release(buffer, all);
 }
 
-/* Under a key of zeros, a wiped one, one whose bytes were refused, and by a sealer and an opener of zeros or wiped nothing
- * is sealed or opened. A copy of a key is one. */
+/* Under a key of zeros and a wiped one nothing is sealed or opened. A copy of a key is one. Wiping writes all of the key. */
+static void zero_keys(const sealing *s) {
+    static const expanded no_key;
+    expanded key = no_key, copy;
+    size_t all = s->len + TAG, len = UNTOUCHED, size = s->is_xaes ? sizeof key.xaes : sizeof key.gcm;
+    uint8_t *buffer = guarded(s->sealed, all);
+    refused_under(&key, s);
+    expand(&key, s);
+    copy = key;
+    memset(&key, 0x5a, sizeof key);
+    wipe(&key, s);
+    CHECK(memcmp(&key, &no_key, size) == 0);
+    refused_under(&key, s);
+    CHECK(UNDER(&copy, s, open, s->aad, s->aad_len, buffer, all, 0, &len) && len == s->len);
+    CHECK(memcmp(buffer, s->message, s->len) == 0);
+    release(buffer, all);
+}
+
+/* Under a key whose bytes were refused, and by a sealer and an opener of zeros or wiped nothing is sealed or opened. */
 static void zeros(const sealing *s) {
-    static const deerlapse_key no_key;
-    deerlapse_key key = {{0}}, copy, refused;
+    expanded refused;
     deerlapse_sealer sealer = {{0}}, no_sealer = {{0}};
     deerlapse_opener opener = {{0}}, no_opener = {{0}};
     uint8_t *buffer = guarded(s->sealed, s->len + TAG);
     size_t all = s->len + TAG, len = UNTOUCHED;
-    refused_under(&key, s);
-    CHECK(CALL(deerlapse_key_init(&key, s->key, s->key_len)));
-    refused = copy = key;
-    CHECK(!CALL(deerlapse_key_init(&refused, s->key, 24)));
+    expand(&refused, s);
+    CHECK(!CALL(deerlapse_key_init(&refused.gcm, s->key, 24)));
     refused_under(&refused, s);
-    CALL(deerlapse_key_wipe(&key));
-    CHECK(SAME(key, no_key));
-    refused_under(&key, s);
     CHECK(!CALL(deerlapse_sealer_seal(&sealer, s->aad, s->aad_len, buffer, s->len, buffer + s->len)));
     CHECK(!CALL(deerlapse_opener_open(&opener, s->aad, s->aad_len, buffer, all, 0, &len)));
     CHECK(!CALL(deerlapse_opener_open_number(&opener, s->number, s->aad, s->aad_len, buffer, all, 0, &len)));
@@ -493,39 +559,44 @@ static void zeros(const sealing *s) {
     CHECK(!CALL(deerlapse_sealer_seal(&sealer, s->aad, s->aad_len, buffer, s->len, buffer + s->len)));
     CHECK(!CALL(deerlapse_opener_open_number(&opener, s->number, s->aad, s->aad_len, buffer, all, 0, &len)));
     CHECK(memcmp(buffer, s->sealed, all) == 0);
-    CHECK(CALL(deerlapse_key_open(&copy, s->nonce, s->aad, s->aad_len, buffer, all, 0, &len)) && len == s->len);
-    CHECK(memcmp(buffer, s->message, s->len) == 0);
     release(buffer, all);
 }
 
 /* A null pointer where the length is 0 is as good as any other. */
-static void nulls(sealing *s) {
+static void null_messages(sealing *s) {
     uint8_t tag[TAG], other[TAG];
     size_t len = UNTOUCHED;
-    deerlapse_key key;
-    deerlapse_sealer sealer;
-    deerlapse_opener opener;
+    expanded key;
     s->aad_len = s->len = 0;
     expect_sealed(s);
-    for (int i = 0; i < SEAL_WAYS; i++) {
+    for (int i = 0; i < seal_ways_of(s); i++) {
         CHECK(seal_ways[i](s, NULL, NULL, tag) && memcmp(tag, s->sealed, TAG) == 0);
     }
     memcpy(other, tag, TAG);
-    for (int i = 0; i < OPEN_WAYS; i++) {
+    for (int i = 0; i < open_ways_of(s); i++) {
         CHECK(open_ways[i](s, NULL, tag, TAG, 0, &len) && len == 0 && memcmp(tag, other, TAG) == 0);
         len = UNTOUCHED;
         CHECK(!open_ways[i](s, NULL, NULL, 0, 0, &len) && len == UNTOUCHED);
     }
-    CHECK(CALL(deerlapse_key_init(&key, s->key, s->key_len)));
-    CHECK(CALL(deerlapse_key_seal_to(&key, s->nonce, NULL, 0, NULL, 0, NULL, tag)));
-    CHECK(CALL(deerlapse_key_seal_to(&key, s->nonce, NULL, 0, s->key, 0, NULL, tag)));
-    CHECK(CALL(deerlapse_key_seal_append_tag(&key, s->nonce, NULL, 0, NULL, 0, tag)));
+    expand(&key, s);
+    CHECK(UNDER(&key, s, seal_to, NULL, 0, NULL, 0, NULL, tag));
+    CHECK(UNDER(&key, s, seal_to, NULL, 0, s->key, 0, NULL, tag));
+    CHECK(UNDER(&key, s, seal_append_tag, NULL, 0, NULL, 0, tag));
     CHECK(memcmp(tag, other, TAG) == 0);
-    CHECK(CALL(deerlapse_key_open_to(&key, s->nonce, NULL, 0, NULL, 0, other, tag)));
-    CHECK(CALL(deerlapse_key_open_to(&key, s->nonce, NULL, 0, NULL, 0, NULL, tag)));
-    CHECK(CALL(deerlapse_key_open_separate_tag(&key, s->nonce, NULL, 0, NULL, 0, 0, tag)));
-    CHECK(CALL(deerlapse_key_open_appended_tag(&key, s->nonce, NULL, 0, tag, TAG, NULL)));
-    CHECK(!CALL(deerlapse_key_open_appended_tag(&key, s->nonce, NULL, 0, NULL, 0, NULL)));
+    CHECK(UNDER(&key, s, open_to, NULL, 0, NULL, 0, other, tag));
+    CHECK(UNDER(&key, s, open_to, NULL, 0, NULL, 0, NULL, tag));
+    CHECK(UNDER(&key, s, open_separate_tag, NULL, 0, NULL, 0, 0, tag));
+    CHECK(UNDER(&key, s, open_appended_tag, NULL, 0, tag, TAG, NULL));
+    CHECK(!UNDER(&key, s, open_appended_tag, NULL, 0, NULL, 0, NULL));
+    CHECK(memcmp(tag, other, TAG) == 0);
+}
+
+static void null_keys(const sealing *s) {
+    uint8_t tag[TAG] = {0}, other[TAG] = {0};
+    size_t len = UNTOUCHED;
+    deerlapse_key key;
+    deerlapse_sealer sealer;
+    deerlapse_opener opener;
     CHECK(!CALL(deerlapse_seal(NULL, 0, s->nonce, NULL, 0, NULL, 0, tag)));
     CHECK(!CALL(deerlapse_open(NULL, 0, s->nonce, NULL, 0, NULL, 0, 0, &len)));
     CHECK(!CALL(deerlapse_key_init(&key, NULL, 0)));
@@ -578,7 +649,7 @@ static void chacha20(const sealing *s) {
 }
 
 /* Three messages of a sealer, each under the next nonce; an opener of the same numbers opens them in order, and takes
- * none of them before or after its turn. */
+ * none of them before or after key turn. */
 static void sequence(sealing *s, size_t round) {
     static uint8_t sealed[3][MAX_MESSAGE + TAG];
     static sealing made[3];
@@ -587,7 +658,7 @@ static void sequence(sealing *s, size_t round) {
     uint8_t nonce[NONCE];
     deerlapse_sealer sealer;
     deerlapse_opener opener;
-    make_sealing(s, round);
+    make_sealing(s, round, false);
     first = s->number;
     CHECK(CALL(deerlapse_sealer_init(&sealer, s->key, s->key_len, s->iv, first, first + 3)));
     CHECK(CALL(deerlapse_opener_init(&opener, s->key, s->key_len, s->iv, first, first + 3)));
@@ -624,12 +695,12 @@ static void sequence(sealing *s, size_t round) {
 }
 
 /* Each start up to 299, at messages of a few lengths, and some far ones. */
-static void starts(sealing *s) {
+static void starts(sealing *s, bool is_xaes) {
     static const size_t lens[] = {0, 1, 16, 47, 299};
     for (size_t i = 0; i < sizeof lens / sizeof lens[0]; i++) {
         for (size_t start = 0; start < 300; start++) {
-            make_sealing(s, lens[i]);
-            for (int way = 0; way < OPEN_WAYS; way++) {
+            make_sealing(s, lens[i], is_xaes);
+            for (int way = 0; way < open_ways_of(s); way++) {
                 opens(s, open_ways[way], start);
                 if (start % 30 == 0) opens(s, open_ways[way], below(MAX_START));
             }
@@ -644,12 +715,14 @@ static void too_long(sealing *s) {
     uint8_t tag[TAG] = {0}, was[TAG] = {0};
     uint8_t *bytes = mmap(NULL, len + TAG, PROT_READ | PROT_WRITE, MAP_PRIVATE | MAP_ANONYMOUS | MAP_NORESERVE, -1, 0);
     deerlapse_key key;
+    deerlapse_xaes xaes;
     deerlapse_message message;
     deerlapse_sealer sealer;
     deerlapse_opener opener;
     if (bytes == MAP_FAILED) return;
-    make_sealing(s, 0);
+    make_sealing(s, 0, false);
     CHECK(CALL(deerlapse_key_init(&key, s->key, s->key_len)));
+    CALL(deerlapse_xaes_init(&xaes, s->key));
     CHECK(CALL(deerlapse_sealer_init(&sealer, s->key, s->key_len, s->iv, 5, 9)));
     CHECK(CALL(deerlapse_opener_init(&opener, s->key, s->key_len, s->iv, 5, 9)));
     CHECK(!CALL(deerlapse_seal(s->key, s->key_len, s->nonce, NULL, 0, bytes, len, tag)));
@@ -664,16 +737,22 @@ static void too_long(sealing *s) {
     CHECK(!CALL(deerlapse_key_open_separate_tag(&key, s->nonce, NULL, 0, bytes, len, 0, was)));
     CHECK(!CALL(deerlapse_key_seal_append_tag(&key, s->nonce, NULL, 0, bytes, len, bytes)));
     CHECK(!CALL(deerlapse_key_open_appended_tag(&key, s->nonce, NULL, 0, bytes, len + TAG, bytes)));
+    CHECK(!CALL(deerlapse_xaes_seal(&xaes, s->nonce, NULL, 0, bytes, len, tag)));
+    CHECK(!CALL(deerlapse_xaes_seal_append_tag(&xaes, s->nonce, NULL, 0, bytes, len, bytes)));
+    CHECK(!CALL(deerlapse_xaes_open(&xaes, s->nonce, NULL, 0, bytes, len + TAG, 0, &opened)));
+    CHECK(!CALL(deerlapse_xaes_open_separate_tag(&xaes, s->nonce, NULL, 0, bytes, len, 0, was)));
+    CHECK(!CALL(deerlapse_xaes_open_appended_tag(&xaes, s->nonce, NULL, 0, bytes, len + TAG, bytes)));
     CHECK(CALL(deerlapse_sealer_next(&sealer)) == 5 && CALL(deerlapse_opener_next(&opener)) == 5);
     CHECK(opened == UNTOUCHED && SAME(tag, was));
     CHECK(munmap(bytes, len + TAG) == 0);
 }
 
-/* A key, a sealer and an opener that refuse, with one page of zeros that may be read and written and none on either side. */
+/* Keys, a sealer and an opener that refuse, with one page of zeros that may be read and written and none on either side. */
 typedef struct {
     uint8_t *pages, *at, zeros[TAG];
     size_t opened;
     deerlapse_key key;
+    deerlapse_xaes xaes;
     deerlapse_message message;
     deerlapse_sealer sealer;
     deerlapse_opener opener;
@@ -698,6 +777,15 @@ static void false_message_length(const sealing *s, one_page *p, size_t len) {
     CHECK(!CALL(deerlapse_key_open_appended_tag(&p->key, s->nonce, NULL, 0, at, all, at + 1)));
     CHECK(!CALL(deerlapse_key_open_appended_tag(&p->key, s->nonce, NULL, 0, at, all, at)));
     CHECK(!CALL(deerlapse_chacha20(s->key, s->nonce, 1, at, len < (size_t)1 << 38 ? (size_t)1 << 38 : len)));
+    CHECK(!CALL(deerlapse_xaes_seal(&p->xaes, s->nonce, NULL, 0, at, len, at + len)));
+    CHECK(!CALL(deerlapse_xaes_seal_to(&p->xaes, s->nonce, NULL, 0, at, len, at + 1, tag)));
+    CHECK(!CALL(deerlapse_xaes_seal_to(&p->xaes, s->nonce, NULL, 0, at, len, at, tag)));
+    CHECK(!CALL(deerlapse_xaes_seal_append_tag(&p->xaes, s->nonce, NULL, 0, at, len, at + 1)));
+    CHECK(!CALL(deerlapse_xaes_seal_append_tag(&p->xaes, s->nonce, NULL, 0, at, len, at)));
+    CHECK(!CALL(deerlapse_xaes_open_to(&p->xaes, s->nonce, NULL, 0, at, len, at + 1, at + len)));
+    CHECK(!CALL(deerlapse_xaes_open_to(&p->xaes, s->nonce, NULL, 0, at, len, at, at + len)));
+    CHECK(!CALL(deerlapse_xaes_open_appended_tag(&p->xaes, s->nonce, NULL, 0, at, all, at + 1)));
+    CHECK(!CALL(deerlapse_xaes_open_appended_tag(&p->xaes, s->nonce, NULL, 0, at, all, at)));
 }
 
 /* The same where `start` leaves more than the limit, or is after the end. */
@@ -707,6 +795,8 @@ static void false_start(const sealing *s, one_page *p, size_t len, size_t start)
     CHECK(!CALL(deerlapse_open(s->key, s->key_len, s->nonce, NULL, 0, at, all, start, &p->opened)));
     CHECK(!CALL(deerlapse_key_open(&p->key, s->nonce, NULL, 0, at, all, start, &p->opened)));
     CHECK(!CALL(deerlapse_key_open_separate_tag(&p->key, s->nonce, NULL, 0, at, len, start, at + len)));
+    CHECK(!CALL(deerlapse_xaes_open(&p->xaes, s->nonce, NULL, 0, at, all, start, &p->opened)));
+    CHECK(!CALL(deerlapse_xaes_open_separate_tag(&p->xaes, s->nonce, NULL, 0, at, len, start, at + len)));
     CHECK(!CALL(deerlapse_opener_open(&p->opener, NULL, 0, at, all, start, &p->opened)));
     CHECK(!CALL(deerlapse_opener_open_number(&p->opener, 5, NULL, 0, at, all, start, &p->opened)));
 }
@@ -721,6 +811,13 @@ static void false_aad_length(const sealing *s, one_page *p, size_t aad_len) {
     CHECK(!CALL(deerlapse_key_open_to(&p->key, s->nonce, at, aad_len, s->message, 1, at + 1, tag)));
     CHECK(!CALL(deerlapse_key_open_appended_tag(&p->key, s->nonce, at, aad_len, s->message, TAG, at + 1)));
     CHECK(!CALL(deerlapse_key_open_separate_tag(&p->key, s->nonce, at, aad_len, at + 1, 1, 0, tag)));
+    CHECK(!CALL(deerlapse_xaes_seal(&p->xaes, s->nonce, at, aad_len, tag, 0, at + 1)));
+    CHECK(!CALL(deerlapse_xaes_seal_to(&p->xaes, s->nonce, at, aad_len, s->message, 1, at + 1, tag)));
+    CHECK(!CALL(deerlapse_xaes_seal_append_tag(&p->xaes, s->nonce, at, aad_len, s->message, 1, at + 1)));
+    CHECK(!CALL(deerlapse_xaes_open(&p->xaes, s->nonce, at, aad_len, tag, TAG, 0, &p->opened)));
+    CHECK(!CALL(deerlapse_xaes_open_to(&p->xaes, s->nonce, at, aad_len, s->message, 1, at + 1, tag)));
+    CHECK(!CALL(deerlapse_xaes_open_appended_tag(&p->xaes, s->nonce, at, aad_len, s->message, TAG, at + 1)));
+    CHECK(!CALL(deerlapse_xaes_open_separate_tag(&p->xaes, s->nonce, at, aad_len, at + 1, 1, 0, tag)));
     CHECK(!CALL(deerlapse_sealer_seal(&p->sealer, at, aad_len, tag, 0, at + 1)));
     CHECK(!CALL(deerlapse_opener_open(&p->opener, at, aad_len, tag, TAG, 0, &p->opened)));
 }
@@ -740,13 +837,14 @@ static void false_lengths(sealing *s) {
     static const size_t limit = ((size_t)1 << 36) - 32;
     static const size_t lens[] = {((size_t)1 << 36) - 31, (size_t)1 << 40, SIZE_MAX / 2, SIZE_MAX - TAG, SIZE_MAX};
     static one_page page;
-    make_sealing(s, 0);
+    make_sealing(s, 0, false);
     page.opened = UNTOUCHED;
     page.pages = mmap(NULL, 3 * PAGE, PROT_NONE, MAP_PRIVATE | MAP_ANONYMOUS, -1, 0);
     CHECK(page.pages != MAP_FAILED);
     page.at = page.pages + PAGE;
     CHECK(mprotect(page.at, PAGE, PROT_READ | PROT_WRITE) == 0);
     CHECK(CALL(deerlapse_key_init(&page.key, s->key, s->key_len)));
+    CALL(deerlapse_xaes_init(&page.xaes, s->key));
     CHECK(CALL(deerlapse_key_begin(&page.key, s->nonce, NULL, 0, &page.message)));
     CHECK(CALL(deerlapse_sealer_init(&page.sealer, s->key, s->key_len, s->iv, 5, 9)));
     CHECK(CALL(deerlapse_opener_init(&page.opener, s->key, s->key_len, s->iv, 5, 9)));
@@ -765,9 +863,9 @@ static void false_lengths(sealing *s) {
     CHECK(page.opened == UNTOUCHED && munmap(page.pages, 3 * PAGE) == 0);
 }
 
-/* What threads share: a key and an opener, and messages under them. */
+/* What threads share: a key of each cipher, an opener, and messages under them, of which every other one is of XAES-256-GCM. */
 static struct {
-    deerlapse_key key;
+    expanded keys[2];
     deerlapse_opener opener;
     sealing made[SHARED];
 } shared;
@@ -778,12 +876,14 @@ static void *works(void *from) {
     CHECK(buffer);
     for (size_t i = 0; i < SHARED; i++) {
         const sealing *s = &shared.made[(i + *(const size_t *)from) % SHARED];
+        const expanded *key = &shared.keys[s->is_xaes];
         size_t all = s->len + TAG, len = 0;
         memcpy(buffer, s->message, s->len);
-        CHECK(deerlapse_key_seal(&shared.key, s->nonce, s->aad, s->aad_len, buffer, s->len, buffer + s->len));
+        CHECK(UNCOUNTED(key, s, seal, s->aad, s->aad_len, buffer, s->len, buffer + s->len));
         CHECK(memcmp(buffer, s->sealed, all) == 0);
-        CHECK(deerlapse_key_open(&shared.key, s->nonce, s->aad, s->aad_len, buffer, all, 0, &len) && len == s->len);
+        CHECK(UNCOUNTED(key, s, open, s->aad, s->aad_len, buffer, all, 0, &len) && len == s->len);
         CHECK(memcmp(buffer, s->message, s->len) == 0);
+        if (s->is_xaes) continue;
         memcpy(buffer, s->sealed, all);
         CHECK(deerlapse_opener_open_number(&shared.opener, s->number, s->aad, s->aad_len, buffer, all, 0, &len));
         CHECK(len == s->len && memcmp(buffer, s->message, s->len) == 0);
@@ -797,50 +897,92 @@ static void threads(size_t round) {
     size_t from[THREADS];
     for (size_t i = 0; i < SHARED; i++) {
         sealing *s = &shared.made[i];
-        make_sealing(s, 301 + round);
+        make_sealing(s, 301 + round, i % 2);
         memcpy(s->key, shared.made[0].key, sizeof s->key);
         memcpy(s->iv, shared.made[0].iv, NONCE);
-        s->key_len = shared.made[0].key_len;
+        if (!s->is_xaes) s->key_len = shared.made[0].key_len;
         set_nonce(s);
         expect_sealed(s);
     }
     const sealing *s = &shared.made[0];
-    CHECK(CALL(deerlapse_key_init(&shared.key, s->key, s->key_len)));
+    expand(&shared.keys[0], s);
+    expand(&shared.keys[1], s + 1);
     CHECK(CALL(deerlapse_opener_init(&shared.opener, s->key, s->key_len, s->iv, 0, 0)));
     for (size_t i = 0; i < THREADS; i++) {
         from[i] = i * SHARED / THREADS;
         CHECK(pthread_create(&started_as[i], NULL, works, &from[i]) == 0);
     }
     for (size_t i = 0; i < THREADS; i++) CHECK(pthread_join(started_as[i], NULL) == 0);
-    calls += 3 * THREADS * SHARED;
+    calls += 5 * THREADS * SHARED / 2;
+}
+
+/* The accumulated test of XAES-256-GCM's specification: SHAKE128 of nothing gives, 10,000 times, a key, a nonce, a plaintext and
+ * an AAD, the last two after a byte with their length. SHAKE128 of all ciphertexts and tags is expected. */
+static void accumulated(void) {
+    enum { MESSAGES = 10000, STREAM = 3137982 };
+    static const uint8_t expected[] = {0xe6, 0xb9, 0xed, 0xf2, 0xdf, 0x6c, 0xec, 0x60, 0xc8, 0xcb, 0xd8,
+                                       0x64, 0xe2, 0x21, 0x1b, 0x59, 0x7f, 0xb6, 0x9a, 0x52, 0x91, 0x60,
+                                       0xcd, 0x04, 0x0d, 0x56, 0xc0, 0xc2, 0x10, 0x08, 0x19, 0x39};
+    static uint8_t stream[STREAM];
+    uint8_t found[sizeof expected], sealed[UINT8_MAX + TAG];
+    const uint8_t *at = stream;
+    EVP_MD_CTX *context = EVP_MD_CTX_new();
+    CHECK(context && EVP_DigestInit_ex(context, EVP_shake128(), NULL) == 1);
+    CHECK(EVP_DigestFinalXOF(context, stream, STREAM) == 1 && EVP_DigestInit_ex(context, EVP_shake128(), NULL) == 1);
+    for (int i = 0; i < MESSAGES; i++) {
+        const uint8_t *bytes = at, *nonce = bytes + 32, *message = nonce + XAES_NONCE + 1, *aad = message + message[-1] + 1;
+        size_t len = message[-1], aad_len = aad[-1], opened = UNTOUCHED;
+        deerlapse_xaes key;
+        at = aad + aad_len;
+        CHECK(at <= stream + STREAM);
+        CALL(deerlapse_xaes_init(&key, bytes));
+        memcpy(sealed, message, len);
+        CHECK(CALL(deerlapse_xaes_seal(&key, nonce, aad, aad_len, sealed, len, sealed + len)));
+        CHECK(EVP_DigestUpdate(context, sealed, len + TAG) == 1);
+        CHECK(CALL(deerlapse_xaes_open(&key, nonce, aad, aad_len, sealed, len + TAG, 0, &opened)) && opened == len);
+        CHECK(memcmp(sealed, message, len) == 0);
+    }
+    CHECK(at == stream + STREAM && EVP_DigestFinalXOF(context, found, sizeof found) == 1 && SAME(found, expected));
+    EVP_MD_CTX_free(context);
 }
 #endif
+
+/* What holds for either cipher. It leaves no message. */
+static void either(sealing *s) {
+    for (int i = 0; i < seal_ways_of(s); i++) seals(s, seal_ways[i]);
+    for (int i = 0; i < open_ways_of(s); i++) {
+        opens(s, open_ways[i], below(40));
+        refuses(s, open_ways[i]);
+    }
+    elsewhere(s);
+    zero_keys(s);
+    null_messages(s);
+}
 
 int main(int argc, char **argv) {
     size_t rounds = argc > 1 ? strtoul(argv[1], NULL, 10) : 2000;
     state = argc > 2 ? strtoull(argv[2], NULL, 10) : 1;
     CHECK(rounds > 0 && state != 0);
     static sealing s;
-    starts(&s);
+    starts(&s, false);
+    starts(&s, true);
 #ifndef HASHED
     too_long(&s);
     false_lengths(&s);
+    accumulated();
 #endif
     CHECK(CALL(deerlapse_version()) == DEERLAPSE_VERSION);
     for (size_t round = 0; round < rounds; round++) {
-        make_sealing(&s, round);
-        for (int i = 0; i < SEAL_WAYS; i++) seals(&s, seal_ways[i]);
-        for (int i = 0; i < OPEN_WAYS; i++) {
-            opens(&s, open_ways[i], below(40));
-            refuses(&s, open_ways[i]);
-        }
-        elsewhere(&s);
+        make_sealing(&s, round, false);
         refuses_keys(&s);
         zeros(&s);
         chacha20(&s);
         masks();
+        null_keys(&s);
+        either(&s);
+        make_sealing(&s, round, true);
+        either(&s);
         sequence(&s, round);
-        nulls(&s);
 #ifndef HASHED
         if (round % 100 == 0) threads(round);
 #endif

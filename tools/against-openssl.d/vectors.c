@@ -1,5 +1,5 @@
-/* Vectors of standards through the calls for C that derive secrets and keys, and that seal and open packets of QUIC and
- * records of TLS 1.3. It needs no OpenSSL. */
+/* Vectors of standards through the calls for C that derive secrets and keys, that seal and open packets of QUIC and records of
+ * TLS 1.3, and of XAES-256-GCM. It needs no OpenSSL. */
 #include "deerlapse.h"
 #include <stdio.h>
 #include <stdlib.h>
@@ -299,6 +299,16 @@ static const record records[] = {
      "cf782b88dd83549aadf1e984", 2, 21, "0100", "b58fd67166ebf599d24720cfbe7efa7a8864a9"},
 };
 
+/* A key, a nonce, an AAD, a plaintext, and the ciphertext with its tag: c2sp.org/XAES-256-GCM. CMAC's subkey (SP 800-38B section
+ * 6.1) takes the XOR with 0x87 under the second key alone. */
+static const char *const sealed[][5] = {
+    {"0101010101010101010101010101010101010101010101010101010101010101", "4142434445464748494a4b4c4d4e4f505152535455565758", "",
+     "584145532d3235362d47434d", "ce546ef63c9cc60765923609b33a9a1974e96e52daf2fcf7075e2271"},
+    {"0303030303030303030303030303030303030303030303030303030303030303", "4142434445464748494a4b4c4d4e4f505152535455565758",
+     "633273702e6f72672f584145532d3235362d47434d", "584145532d3235362d47434d",
+     "986ec1832593df5443a179437fd083bf3fdb41abd740a21f71eb769d"},
+};
+
 typedef struct {
     size_t len;
     uint8_t at[MAX];
@@ -410,6 +420,24 @@ static void of_record(const record *r) {
     of_record_key(r, &by_key);
 }
 
+/* In place, and with the tag after the message from one buffer to another. */
+static void of_sealed(const char *const *texts) {
+    bytes key_bytes = hex(texts[0]), nonce = hex(texts[1]), aad = hex(texts[2]), message = hex(texts[3]), wanted = hex(texts[4]);
+    uint8_t buffer[MAX], out[MAX];
+    size_t len = 0;
+    deerlapse_xaes key;
+    deerlapse_xaes_init(&key, key_bytes.at);
+    memcpy(buffer, message.at, message.len);
+    CHECK(deerlapse_xaes_seal(&key, nonce.at, aad.at, aad.len, buffer, message.len, buffer + message.len));
+    CHECK(message.len + DEERLAPSE_TAG_LEN == wanted.len && same(buffer, &wanted));
+    CHECK(deerlapse_xaes_open(&key, nonce.at, aad.at, aad.len, buffer, wanted.len, 0, &len));
+    CHECK(len == message.len && same(buffer, &message));
+    CHECK(deerlapse_xaes_seal_append_tag(&key, nonce.at, aad.at, aad.len, message.at, message.len, out));
+    CHECK(same(out, &wanted));
+    CHECK(deerlapse_xaes_open_appended_tag(&key, nonce.at, aad.at, aad.len, wanted.at, wanted.len, out));
+    CHECK(same(out, &message));
+}
+
 #define ROWS(table) (sizeof(table) / sizeof(table)[0])
 
 int main(void) {
@@ -420,6 +448,7 @@ int main(void) {
     for (row = 0; row < ROWS(updates); row++) of_update(&updates[row]);
     for (row = 0; row < ROWS(packets); row++) of_packet(&packets[row]);
     for (row = 0; row < ROWS(records); row++) of_record(&records[row]);
-    printf("%u checks of vectors of RFC 4231, 5869, 8448, 9001 and 9369\n", checks);
+    for (row = 0; row < ROWS(sealed); row++) of_sealed(sealed[row]);
+    printf("%u checks of vectors of RFC 4231, 5869, 8448, 9001 and 9369, and of XAES-256-GCM\n", checks);
     return 0;
 }
