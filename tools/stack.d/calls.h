@@ -11,10 +11,11 @@ typedef struct {
 
 /* The arguments of the calls. */
 typedef struct {
-    uint8_t bytes[32], nonce[DEERLAPSE_NONCE_LEN], aad[AAD], buffer[MAX_LEN + 1 + TAG], out[MAX_LEN + TAG], tag[TAG];
+    uint8_t bytes[32], nonce[DEERLAPSE_XAES_NONCE_LEN], aad[AAD], buffer[MAX_LEN + 1 + TAG], out[MAX_LEN + TAG], tag[TAG];
     uint8_t sample[DEERLAPSE_SAMPLE_LEN], mask[DEERLAPSE_MASK_LEN];
     size_t key_len, len, opened_len;
     deerlapse_key key;
+    deerlapse_xaes xaes;
     deerlapse_message message;
     deerlapse_sealer sealer;
     deerlapse_opener opener;
@@ -53,6 +54,31 @@ static bool key_begin(void) { return deerlapse_key_begin(&at->key, at->nonce, at
 static bool key_update(void) { return deerlapse_key_update(&at->key, &at->message, at->buffer, at->len); }
 static bool key_finish(void) { return deerlapse_key_finish(&at->key, &at->message, at->tag); }
 static bool key_mask(void) { return deerlapse_key_mask(&at->key, at->sample, at->mask); }
+static bool xaes_init(void) { return deerlapse_xaes_init(&at->xaes, at->bytes), true; }
+static bool xaes_wipe(void) { return deerlapse_xaes_wipe(&at->xaes), true; }
+static bool xaes_seal(void) {
+    return deerlapse_xaes_seal(&at->xaes, at->nonce, at->aad, AAD, at->buffer, at->len, at->buffer + at->len);
+}
+static bool xaes_open(void) {
+    return deerlapse_xaes_open(&at->xaes, at->nonce, at->aad, AAD, at->buffer, at->len + TAG, 0, &at->opened_len);
+}
+static bool xaes_open_separate_tag(void) {
+    uint8_t *tag = at->buffer + at->len;
+    return deerlapse_xaes_open_separate_tag(&at->xaes, at->nonce, at->aad, AAD, at->buffer, at->len, 0, tag);
+}
+static bool xaes_seal_to(void) {
+    return deerlapse_xaes_seal_to(&at->xaes, at->nonce, at->aad, AAD, at->buffer, at->len, at->out, at->tag);
+}
+static bool xaes_open_to(void) {
+    uint8_t *tag = at->buffer + at->len;
+    return deerlapse_xaes_open_to(&at->xaes, at->nonce, at->aad, AAD, at->buffer, at->len, at->out, tag);
+}
+static bool xaes_seal_append_tag(void) {
+    return deerlapse_xaes_seal_append_tag(&at->xaes, at->nonce, at->aad, AAD, at->buffer, at->len, at->out);
+}
+static bool xaes_open_appended_tag(void) {
+    return deerlapse_xaes_open_appended_tag(&at->xaes, at->nonce, at->aad, AAD, at->buffer, at->len + TAG, at->out);
+}
 static bool version(void) { return deerlapse_version() == DEERLAPSE_VERSION; }
 static bool seal(void) {
     uint8_t *tag = at->buffer + at->len;
@@ -139,6 +165,7 @@ static bool record_key_open(void) {
 static bool record_key_wipe(void) { return deerlapse_record_key_wipe(&at->record_key), true; }
 
 static bool key_sealed(void) { return key_init() && key_seal(); }
+static bool xaes_sealed(void) { return xaes_init() && xaes_seal(); }
 static bool key_begun(void) { return key_init() && key_begin(); }
 static bool key_updated(void) { return key_begun() && key_update(); }
 static bool opener_sealed(void) { return opener_init() && seal(); }
@@ -158,6 +185,15 @@ static const named calls[] = {{"deerlapse_key_init", key_init, NULL},
                               {"deerlapse_key_finish", key_finish, key_updated},
                               {"deerlapse_key_mask", key_mask, key_init},
                               {"deerlapse_key_wipe", key_wipe, key_init},
+                              {"deerlapse_xaes_init", xaes_init, NULL},
+                              {"deerlapse_xaes_seal", xaes_seal, xaes_init},
+                              {"deerlapse_xaes_open", xaes_open, xaes_sealed},
+                              {"deerlapse_xaes_open_separate_tag", xaes_open_separate_tag, xaes_sealed},
+                              {"deerlapse_xaes_seal_to", xaes_seal_to, xaes_init},
+                              {"deerlapse_xaes_open_to", xaes_open_to, xaes_sealed},
+                              {"deerlapse_xaes_seal_append_tag", xaes_seal_append_tag, xaes_init},
+                              {"deerlapse_xaes_open_appended_tag", xaes_open_appended_tag, xaes_sealed},
+                              {"deerlapse_xaes_wipe", xaes_wipe, xaes_init},
                               {"deerlapse_seal", seal, NULL},
                               {"deerlapse_open", open_, seal},
                               {"deerlapse_sealer_init", sealer_init, NULL},

@@ -4,6 +4,7 @@
 #include "traced.h"
 
 static deerlapse_key key;
+static deerlapse_xaes xaes;
 static deerlapse_message in_pieces;
 static deerlapse_sealer sealer;
 static deerlapse_opener opener;
@@ -76,6 +77,59 @@ static bool key_open_appended_tag(void) {
 }
 static bool key_refuse_appended_tag(void) { return !key_open_appended_tag(); }
 static bool key_mask(void) { return deerlapse_key_mask(&key, sample, mask); }
+
+static bool xaes_init(void) {
+    deerlapse_xaes_init(&xaes, key_bytes);
+    return true;
+}
+static bool xaes_wipe(void) {
+    deerlapse_xaes_wipe(&xaes);
+    return true;
+}
+static bool xaes_seal(void) { return deerlapse_xaes_seal(&xaes, nonce, aad, AAD, message, len, message + len); }
+static bool xaes_seal_aad(void) { return deerlapse_xaes_seal(&xaes, nonce, aad, len, message, 40, message + 40); }
+static bool xaes_seal_to(void) { return deerlapse_xaes_seal_to(&xaes, nonce, aad, AAD, message, len, other, tag); }
+static bool xaes_seal_append_tag(void) {
+    return deerlapse_xaes_seal_append_tag(&xaes, nonce, aad, AAD, message, len, other);
+}
+static bool xaes_sealed(void) { return xaes_init() && xaes_seal(); }
+static bool xaes_sealed_to(void) { return xaes_init() && xaes_seal_to(); }
+static bool xaes_sealed_appended(void) { return xaes_init() && xaes_seal_append_tag(); }
+static bool xaes_sealed_falsely(void) {
+    bool is = xaes_sealed();
+    spoil(message + len);
+    return is;
+}
+static bool xaes_sealed_falsely_to(void) {
+    bool is = xaes_sealed_to();
+    spoil(tag);
+    return is;
+}
+static bool xaes_sealed_falsely_appended(void) {
+    bool is = xaes_sealed_appended();
+    spoil(other + len);
+    return is;
+}
+static bool xaes_open(void) { return deerlapse_xaes_open(&xaes, nonce, aad, AAD, message, len + TAG, 0, &opened); }
+static bool xaes_refuse(void) { return !xaes_open(); }
+static bool xaes_open_separate_tag(void) {
+    return deerlapse_xaes_open_separate_tag(&xaes, nonce, aad, AAD, other, len, 0, tag);
+}
+static bool xaes_refuse_separate_tag(void) { return !xaes_open_separate_tag(); }
+static bool xaes_sealed_after_start(void) {
+    bool is = xaes_sealed_to();
+    memmove(other + 3, other, len);
+    return is;
+}
+static bool xaes_open_after_start(void) {
+    return deerlapse_xaes_open_separate_tag(&xaes, nonce, aad, AAD, other, len + 3, 3, tag);
+}
+static bool xaes_open_to(void) { return deerlapse_xaes_open_to(&xaes, nonce, aad, AAD, other, len, message, tag); }
+static bool xaes_refuse_to(void) { return !xaes_open_to(); }
+static bool xaes_open_appended_tag(void) {
+    return deerlapse_xaes_open_appended_tag(&xaes, nonce, aad, AAD, other, len + TAG, message);
+}
+static bool xaes_refuse_appended_tag(void) { return !xaes_open_appended_tag(); }
 
 static bool seal(void) { return deerlapse_seal(key_bytes, key_len, nonce, aad, AAD, message, len, message + len); }
 static bool sealed_falsely(void) {
@@ -213,6 +267,21 @@ static const traced_call calls[] = {
     {"deerlapse_key_update,next", key_update, key_updated_shortly, true},
     {"deerlapse_key_finish", key_finish, key_updated, true},
     {"deerlapse_key_mask", key_mask, key_init, false},
+    {"deerlapse_xaes_init", xaes_init, NULL, false},
+    {"deerlapse_xaes_wipe", xaes_wipe, xaes_init, false},
+    {"deerlapse_xaes_seal", xaes_seal, xaes_init, true},
+    {"deerlapse_xaes_seal,AAD", xaes_seal_aad, xaes_init, true},
+    {"deerlapse_xaes_open", xaes_open, xaes_sealed, true},
+    {"deerlapse_xaes_open,false", xaes_refuse, xaes_sealed_falsely, true},
+    {"deerlapse_xaes_open_separate_tag", xaes_open_separate_tag, xaes_sealed_to, true},
+    {"deerlapse_xaes_open_separate_tag,false", xaes_refuse_separate_tag, xaes_sealed_falsely_to, true},
+    {"deerlapse_xaes_open_separate_tag,start", xaes_open_after_start, xaes_sealed_after_start, true},
+    {"deerlapse_xaes_seal_to", xaes_seal_to, xaes_init, true},
+    {"deerlapse_xaes_open_to", xaes_open_to, xaes_sealed_to, true},
+    {"deerlapse_xaes_open_to,false", xaes_refuse_to, xaes_sealed_falsely_to, true},
+    {"deerlapse_xaes_seal_append_tag", xaes_seal_append_tag, xaes_init, true},
+    {"deerlapse_xaes_open_appended_tag", xaes_open_appended_tag, xaes_sealed_appended, true},
+    {"deerlapse_xaes_open_appended_tag,false", xaes_refuse_appended_tag, xaes_sealed_falsely_appended, true},
     {"deerlapse_seal", seal, NULL, true},
     {"deerlapse_open", open_, seal, true},
     {"deerlapse_open,false", refuse, sealed_falsely, true},

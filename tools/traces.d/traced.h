@@ -12,10 +12,10 @@
 #define LONGEST 16384
 #endif
 
-enum { SEEDS = 12, MAX_LEN = LONGEST, ROOM = MAX_LEN + 64, TAG = 16, NONCE = 12, AAD = 20 };
+enum { SEEDS = 12, MAX_LEN = LONGEST, ROOM = MAX_LEN + 64, TAG = 16, NONCE = 12, XAES_NONCE = 24, AAD = 20 };
 
 /* The secrets of a call, other ones for each seed. `other` is room for an output, or for a sealed message. */
-static uint8_t key_bytes[32], header_key[32], nonce[NONCE], aad[ROOM], message[ROOM], sample[16], other[ROOM], tag[TAG];
+static uint8_t key_bytes[32], header_key[32], nonce[XAES_NONCE], aad[ROOM], message[ROOM], sample[16], other[ROOM], tag[TAG];
 static uint8_t secret[48]; /* of 32 bytes with a key of 16, and of 48 with one of 32 */
 static unsigned seed;
 
