@@ -8,6 +8,7 @@
 
 #define TAG DEERLAPSE_TAG_LEN
 #define NONCE DEERLAPSE_NONCE_LEN
+#define XAES_NONCE DEERLAPSE_XAES_NONCE_LEN
 
 static unsigned long openings, authentic_records;
 
@@ -89,6 +90,41 @@ static void seals_and_opens(size_t key_len, size_t aad_len, size_t len, size_t s
     seals_in_pieces(&key, nonce, aad, aad_len, len);
     deerlapse_key_wipe(&key);
     CHECK(!deerlapse_key_seal(&key, nonce, aad, aad_len, bytes, key_len, nonce));
+    free(aad);
+    free(nonce);
+    free(bytes);
+}
+
+/* Seals by XAES-256-GCM with each call, and opens with a false tag and with the right one: in place from a start, with the tag in
+ * the buffer and apart, and from one buffer to another, with the tag apart and after the ciphertext. */
+static void seals_by_xaes(size_t aad_len, size_t len, size_t start) {
+    uint8_t *bytes = secret(DEERLAPSE_XAES_KEY_LEN), *nonce = secret(XAES_NONCE), *aad = secret(aad_len);
+    uint8_t *in = secret(len), *buffer = secret(start + len + TAG), *sealed = buffer + start, *tag = secret(TAG);
+    uint8_t *both = secret(len + TAG), *out = secret(len);
+    const size_t none = 7;
+    deerlapse_xaes key;
+    deerlapse_xaes_init(&key, bytes);
+    for (int right = 0; right < 2; right++) {
+        uint8_t flip = right ? 0 : 0x10;
+        size_t found = 7, place = len % TAG;
+        CHECK(deerlapse_xaes_seal(&key, nonce, aad, aad_len, sealed, len, sealed + len));
+        sealed[len + place] ^= flip;
+        opened(deerlapse_xaes_open(&key, nonce, aad, aad_len, buffer, start + len + TAG, start, &found), right, &found, len);
+        CHECK(deerlapse_xaes_seal_to(&key, nonce, aad, aad_len, in, len, sealed, tag));
+        tag[place] ^= flip;
+        opened(deerlapse_xaes_open_to(&key, nonce, aad, aad_len, sealed, len, out, tag), right, &none, 7);
+        opened(deerlapse_xaes_open_separate_tag(&key, nonce, aad, aad_len, buffer, start + len, start, tag), right, &none, 7);
+        CHECK(deerlapse_xaes_seal_append_tag(&key, nonce, aad, aad_len, in, len, both));
+        both[len + place] ^= flip;
+        opened(deerlapse_xaes_open_appended_tag(&key, nonce, aad, aad_len, both, len + TAG, out), right, &none, 7);
+    }
+    deerlapse_xaes_wipe(&key);
+    CHECK(!deerlapse_xaes_seal(&key, nonce, aad, aad_len, in, len, tag));
+    free(out);
+    free(both);
+    free(tag);
+    free(buffer);
+    free(in);
     free(aad);
     free(nonce);
     free(bytes);
@@ -270,6 +306,8 @@ int main(int argc, char **argv) {
             protects_records(secret_len, lens[i]);
         }
         encrypts(lens[i]);
+        seals_by_xaes(i, lens[i], 0);
+        seals_by_xaes(lens[i], 40, 1 + i);
     }
     seals_nothing(16);
     seals_nothing(32);
