@@ -1,10 +1,10 @@
-/* What deerlapse.h promises of each call that has a limit, of the wipes, and of null pointers to the calls that take secrets:
- * tools/package compiles it by each standard, and by clang under the undefined behavior sanitizer. */
+/* What deerlapse.h promises of each call that has a limit, of the wipes, and of null pointers to the calls that take secrets and
+ * to those of XAES-256-GCM: tools/package compiles it by each standard, and by clang under the undefined behavior sanitizer. */
 #include "deerlapse.h"
 #include <stdio.h>
 #include <string.h>
 
-static const uint8_t secret[32] = {1, 2, 3}, nonce[DEERLAPSE_NONCE_LEN] = {4};
+static const uint8_t secret[32] = {1, 2, 3}, nonce[DEERLAPSE_NONCE_LEN] = {4}, long_nonce[DEERLAPSE_XAES_NONCE_LEN] = {5};
 
 /* The bytes that aren't zero. */
 static size_t left(const void *bytes, size_t len) {
@@ -17,12 +17,14 @@ static size_t left(const void *bytes, size_t len) {
 static size_t left_by_wipes(void) {
     struct {
         deerlapse_key key, header_key;
+        deerlapse_xaes xaes;
         deerlapse_sealer sealer;
         deerlapse_opener opener;
         deerlapse_quic_key quic_key;
         deerlapse_record_key record_key;
     } all;
     memset(&all, 0xff, sizeof all);
+    deerlapse_xaes_init(&all.xaes, secret);
     if (!deerlapse_key_init(&all.key, secret, sizeof secret) ||
         !deerlapse_sealer_init(&all.sealer, secret, sizeof secret, nonce, 1, 2) ||
         !deerlapse_opener_init(&all.opener, secret, sizeof secret, nonce, 1, 2) ||
@@ -33,6 +35,7 @@ static size_t left_by_wipes(void) {
     }
     deerlapse_key_wipe(&all.key);
     deerlapse_key_wipe(&all.header_key);
+    deerlapse_xaes_wipe(&all.xaes);
     deerlapse_sealer_wipe(&all.sealer);
     deerlapse_opener_wipe(&all.opener);
     deerlapse_quic_key_wipe(&all.quic_key);
@@ -41,7 +44,8 @@ static size_t left_by_wipes(void) {
 }
 
 /* What the calls below are given, of which a refused call changes nothing. `in` is the ciphertext of 48 zeros and its tag, and
- * `tag` is that tag: a call that opens them is refused only for what is above a limit. */
+ * `tag` is that tag: a call that opens them is refused only for what is above a limit. So are `xaes_in` and `xaes_tag` by
+ * XAES-256-GCM. */
 typedef struct {
     deerlapse_key key;
     deerlapse_message message;
@@ -49,14 +53,18 @@ typedef struct {
     deerlapse_opener opener;
     deerlapse_quic_key packets;
     deerlapse_record_key records;
-    uint8_t in[64], out[64], tag[DEERLAPSE_TAG_LEN], type;
+    deerlapse_xaes xaes;
+    uint8_t in[64], out[64], tag[DEERLAPSE_TAG_LEN], xaes_in[64], xaes_tag[DEERLAPSE_TAG_LEN], type;
     size_t count;
 } given;
 
 static bool give(given *g) {
     memset(g, 0, sizeof *g);
+    deerlapse_xaes_init(&g->xaes, secret);
     return deerlapse_key_init(&g->key, secret, 32) && deerlapse_key_begin(&g->key, nonce, NULL, 0, &g->message) &&
            deerlapse_key_seal(&g->key, nonce, nonce, 12, g->in, 48, g->tag) && memcpy(g->in + 48, g->tag, 16) &&
+           deerlapse_xaes_seal(&g->xaes, long_nonce, nonce, 12, g->xaes_in, 48, g->xaes_tag) &&
+           memcpy(g->xaes_in + 48, g->xaes_tag, 16) &&
            deerlapse_sealer_init(&g->sealer, secret, 32, nonce, 1, 2) &&
            deerlapse_opener_init(&g->opener, secret, 32, nonce, 1, 2) &&
            deerlapse_quic_key_init(&g->packets, secret, 32, nonce) &&
@@ -74,18 +82,29 @@ static bool refuses_to_seal(given *g, size_t len) {
            !deerlapse_chacha20(secret, nonce, UINT32_MAX, g->out, len);
 }
 
+static bool xaes_refuses_to_seal(given *g, size_t len) {
+    return !deerlapse_xaes_seal(&g->xaes, long_nonce, NULL, 0, g->out, len, g->tag) &&
+           !deerlapse_xaes_open_separate_tag(&g->xaes, long_nonce, NULL, 0, g->out, len, 0, g->tag);
+}
+
 /* The same from one buffer to another, or to itself. */
 static bool refuses_between(given *g, const uint8_t *in, size_t len) {
     return !deerlapse_key_seal_to(&g->key, nonce, NULL, 0, in, len, g->out, g->tag) &&
            !deerlapse_key_open_to(&g->key, nonce, NULL, 0, in, len, g->out, g->tag) &&
-           !deerlapse_key_seal_append_tag(&g->key, nonce, NULL, 0, in, len, g->out);
+           !deerlapse_key_seal_append_tag(&g->key, nonce, NULL, 0, in, len, g->out) &&
+           !deerlapse_xaes_seal_to(&g->xaes, long_nonce, NULL, 0, in, len, g->out, g->tag) &&
+           !deerlapse_xaes_open_to(&g->xaes, long_nonce, NULL, 0, in, len, g->out, g->tag) &&
+           !deerlapse_xaes_seal_append_tag(&g->xaes, long_nonce, NULL, 0, in, len, g->out);
 }
 
 static bool refuses_to_seal_between(given *g, size_t len) {
     return refuses_between(g, g->in, len) && refuses_between(g, g->out, len) &&
            !deerlapse_key_seal_to_sized(&g->key, nonce, nonce, 12, g->in, len, g->out, len, g->tag) &&
            !deerlapse_key_open_to_sized(&g->key, nonce, nonce, 12, g->in, len, g->out, len, g->tag) &&
-           !deerlapse_key_seal_append_tag_sized(&g->key, nonce, nonce, 12, g->in, len, g->out, len + DEERLAPSE_TAG_LEN);
+           !deerlapse_key_seal_append_tag_sized(&g->key, nonce, nonce, 12, g->in, len, g->out, len + DEERLAPSE_TAG_LEN) &&
+           !deerlapse_xaes_seal_to_sized(&g->xaes, long_nonce, nonce, 12, g->in, len, g->out, len, g->tag) &&
+           !deerlapse_xaes_open_to_sized(&g->xaes, long_nonce, nonce, 12, g->in, len, g->out, len, g->tag) &&
+           !deerlapse_xaes_seal_append_tag_sized(&g->xaes, long_nonce, nonce, 12, g->in, len, g->out, len + DEERLAPSE_TAG_LEN);
 }
 
 /* Ciphertexts with their tags, of so many bytes. */
@@ -100,6 +119,14 @@ static bool refuses_to_open(given *g, size_t len) {
            !deerlapse_quic_key_open(&g->packets, 0, nonce, 12, g->out, len, &g->count);
 }
 
+static bool xaes_refuses_to_open(given *g, size_t len) {
+    size_t out_len = len - DEERLAPSE_TAG_LEN;
+    return !deerlapse_xaes_open(&g->xaes, long_nonce, NULL, 0, g->out, len, 0, &g->count) &&
+           !deerlapse_xaes_open_appended_tag(&g->xaes, long_nonce, NULL, 0, g->in, len, g->out) &&
+           !deerlapse_xaes_open_appended_tag(&g->xaes, long_nonce, NULL, 0, g->out, len, g->out) &&
+           !deerlapse_xaes_open_appended_tag_sized(&g->xaes, long_nonce, nonce, 12, g->in, len, g->out, out_len);
+}
+
 /* Outputs of other lengths than that of the message, or of both with the tag. */
 static bool refuses_sizes(given *g, size_t len) {
     return !deerlapse_key_seal_to_sized(&g->key, nonce, nonce, 12, g->in, 48, g->out, len, g->tag) &&
@@ -108,13 +135,23 @@ static bool refuses_sizes(given *g, size_t len) {
            !deerlapse_key_open_appended_tag_sized(&g->key, nonce, nonce, 12, g->in, 64, g->out, len);
 }
 
+static bool xaes_refuses_sizes(given *g, size_t len) {
+    size_t all = len + DEERLAPSE_TAG_LEN;
+    return !deerlapse_xaes_seal_to_sized(&g->xaes, long_nonce, nonce, 12, g->xaes_in, 48, g->out, len, g->tag) &&
+           !deerlapse_xaes_open_to_sized(&g->xaes, long_nonce, nonce, 12, g->xaes_in, 48, g->out, len, g->xaes_tag) &&
+           !deerlapse_xaes_seal_append_tag_sized(&g->xaes, long_nonce, nonce, 12, g->xaes_in, 48, g->out, all) &&
+           !deerlapse_xaes_open_appended_tag_sized(&g->xaes, long_nonce, nonce, 12, g->xaes_in, 64, g->out, len);
+}
+
 /* Offsets in 64 bytes, of which the last 16 are a tag, or in 48. */
 static bool refuses_starts(given *g, size_t start) {
     return !deerlapse_key_open(&g->key, nonce, NULL, 0, g->out, 64, start, &g->count) &&
            !deerlapse_key_open_separate_tag(&g->key, nonce, NULL, 0, g->out, 48, start, g->tag) &&
            !deerlapse_open(secret, 32, nonce, NULL, 0, g->out, 64, start, &g->count) &&
            !deerlapse_opener_open(&g->opener, NULL, 0, g->out, 64, start, &g->count) &&
-           !deerlapse_opener_open_number(&g->opener, 1, NULL, 0, g->out, 64, start, &g->count);
+           !deerlapse_opener_open_number(&g->opener, 1, NULL, 0, g->out, 64, start, &g->count) &&
+           !deerlapse_xaes_open(&g->xaes, long_nonce, NULL, 0, g->out, 64, start, &g->count) &&
+           !deerlapse_xaes_open_separate_tag(&g->xaes, long_nonce, NULL, 0, g->out, 48, start, g->tag);
 }
 
 /* AADs, and headers of packets. */
@@ -128,6 +165,23 @@ static bool refuses_to_seal_aads(given *g, size_t len) {
            !deerlapse_seal(secret, 32, nonce, g->in, len, g->out, 48, g->tag) &&
            !deerlapse_sealer_seal(&g->sealer, g->in, len, g->out, 48, g->tag) &&
            !deerlapse_quic_key_seal(&g->packets, 0, g->in, len, g->out, 48, g->tag);
+}
+
+static bool xaes_refuses_to_seal_aads(given *g, size_t len) {
+    return !deerlapse_xaes_seal(&g->xaes, long_nonce, g->in, len, g->out, 48, g->tag) &&
+           !deerlapse_xaes_seal_to(&g->xaes, long_nonce, g->in, len, g->in, 48, g->out, g->tag) &&
+           !deerlapse_xaes_seal_append_tag(&g->xaes, long_nonce, g->in, len, g->in, 48, g->out) &&
+           !deerlapse_xaes_seal_to_sized(&g->xaes, long_nonce, g->in, len, g->in, 48, g->out, 48, g->tag) &&
+           !deerlapse_xaes_seal_append_tag_sized(&g->xaes, long_nonce, g->in, len, g->in, 48, g->out, 64);
+}
+
+static bool xaes_refuses_to_open_aads(given *g, size_t len) {
+    return !deerlapse_xaes_open(&g->xaes, long_nonce, g->in, len, g->out, 64, 0, &g->count) &&
+           !deerlapse_xaes_open_separate_tag(&g->xaes, long_nonce, g->in, len, g->out, 48, 0, g->xaes_tag) &&
+           !deerlapse_xaes_open_to(&g->xaes, long_nonce, g->in, len, g->xaes_in, 48, g->out, g->xaes_tag) &&
+           !deerlapse_xaes_open_appended_tag(&g->xaes, long_nonce, g->in, len, g->xaes_in, 64, g->out) &&
+           !deerlapse_xaes_open_to_sized(&g->xaes, long_nonce, g->in, len, g->xaes_in, 48, g->out, 48, g->xaes_tag) &&
+           !deerlapse_xaes_open_appended_tag_sized(&g->xaes, long_nonce, g->in, len, g->xaes_in, 64, g->out, 48);
 }
 
 static bool refuses_to_open_aads(given *g, size_t len) {
@@ -261,6 +315,10 @@ static bool refuses_long(void) {
         {refuses_ids, 21},               {refuses_to_seal_records, (1 << 14) + 18},
         {refuses_contents, 48},          {refuses_to_open_records, (1 << 14) + 257},
         {refuses_numbers, 3},            {refuses_packet_numbers, (size_t)1 << 62},
+        {xaes_refuses_sizes, 49},        {xaes_refuses_to_seal, 0xfffffffe1},
+        {xaes_refuses_to_open, 0xffffffff1},
+        {xaes_refuses_to_seal_aads, (size_t)1 << 61},
+        {xaes_refuses_to_open_aads, (size_t)1 << 61},
     };
     given g, before;
     if (!give(&before)) return false;
@@ -304,6 +362,30 @@ static bool takes_nulls(void) {
            !deerlapse_record_key_open(&records, 0, NULL, 0, &type, &opened);
 }
 
+/* The same for a message of XAES-256-GCM without AAD, and one without either. Under a key of zeros each call fails. */
+static bool xaes_takes_nulls(void) {
+    static const deerlapse_xaes zeros = {{0}};
+    uint8_t tag[DEERLAPSE_TAG_LEN], other[DEERLAPSE_TAG_LEN], out[1] = {0};
+    size_t opened = 1;
+    deerlapse_xaes key;
+    deerlapse_xaes_init(&key, secret);
+    return deerlapse_xaes_seal(&key, long_nonce, NULL, 0, NULL, 0, tag) &&
+           deerlapse_xaes_seal_to(&key, long_nonce, NULL, 0, NULL, 0, NULL, other) && memcmp(tag, other, sizeof tag) == 0 &&
+           deerlapse_xaes_seal_append_tag(&key, long_nonce, NULL, 0, NULL, 0, other) && memcmp(tag, other, sizeof tag) == 0 &&
+           deerlapse_xaes_open(&key, long_nonce, NULL, 0, other, sizeof other, 0, &opened) && opened == 0 &&
+           deerlapse_xaes_open_separate_tag(&key, long_nonce, NULL, 0, NULL, 0, 0, tag) &&
+           deerlapse_xaes_open_to(&key, long_nonce, NULL, 0, NULL, 0, NULL, tag) &&
+           deerlapse_xaes_open_to(&key, long_nonce, NULL, 0, out, 0, NULL, tag) &&
+           deerlapse_xaes_open_appended_tag(&key, long_nonce, NULL, 0, tag, sizeof tag, NULL) &&
+           !deerlapse_xaes_open(&key, long_nonce, NULL, 0, NULL, 0, 0, &opened) &&
+           !deerlapse_xaes_open_appended_tag(&key, long_nonce, NULL, 0, NULL, 0, NULL) &&
+           !deerlapse_xaes_seal(&zeros, long_nonce, NULL, 0, NULL, 0, other) &&
+           !deerlapse_xaes_seal_to(&zeros, long_nonce, NULL, 0, NULL, 0, NULL, other) &&
+           !deerlapse_xaes_seal_append_tag(&zeros, long_nonce, NULL, 0, NULL, 0, other) &&
+           !deerlapse_xaes_open_separate_tag(&zeros, long_nonce, NULL, 0, NULL, 0, 0, tag) &&
+           memcmp(tag, other, sizeof tag) == 0;
+}
+
 int main(void) {
     size_t count = left_by_wipes();
     if (count != 0) {
@@ -314,7 +396,7 @@ int main(void) {
         puts("a length above the limits is accepted");
         return 1;
     }
-    if (!takes_nulls()) {
+    if (!takes_nulls() || !xaes_takes_nulls()) {
         puts("a null pointer with a length of 0 is not as the header says");
         return 1;
     }
