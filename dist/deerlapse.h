@@ -1,6 +1,6 @@
-/* AES-GCM, the ChaCha20 stream, QUIC's header protection masks, and the keys of QUIC's packets and TLS 1.3's records, for C
- * and C++. deerlapse.h is C99. The library is a file of assembly for each target, such as deerlapse-x86_64-v2.s, of which
- * libdeerlapse.a and libdeerlapse.so are made.
+/* AES-GCM, XAES-256-GCM, the ChaCha20 stream, QUIC's header protection masks, and the keys of QUIC's packets and TLS 1.3's
+ * records, for C and C++. deerlapse.h is C99. The library is a file of assembly for each target, such as
+ * deerlapse-x86_64-v2.s, of which libdeerlapse.a and libdeerlapse.so are made.
  *
  * The following holds for every call:
  *  - It returns true on success. It returns false on failure, and leaves every byte unchanged, except that
@@ -65,6 +65,8 @@
 
 /* The lengths of arrays, in bytes. */
 #define DEERLAPSE_NONCE_LEN 12
+#define DEERLAPSE_XAES_KEY_LEN 32
+#define DEERLAPSE_XAES_NONCE_LEN 24
 #define DEERLAPSE_TAG_LEN 16
 #define DEERLAPSE_SAMPLE_LEN 16
 #define DEERLAPSE_MASK_LEN 5
@@ -259,6 +261,81 @@ DEERLAPSE_NODISCARD
 bool deerlapse_open(const uint8_t *key, size_t key_len, const uint8_t nonce[DEERLAPSE_NONCE_LEN],
                     const uint8_t *aad, size_t aad_len, uint8_t *in_out, size_t in_out_len, size_t start,
                     size_t *plaintext_len);
+
+/* A key of XAES-256-GCM (c2sp.org/XAES-256-GCM), whose nonces have 24 bytes: enough to be drawn at random for each message.
+ * Each message is sealed by AES-256-GCM under a key of its own, which is derived from the key and the first 12 bytes of the
+ * nonce, and with the last 12 bytes as its nonce. The specification allows 2^80 messages under one key with random nonces. Of
+ * random nonces of 12 bytes, 2^32 are allowed under a key of AES-GCM (SP 800-38D section 8.3).
+ *
+ * deerlapse_xaes_init expands it once, for many messages and many threads. As a deerlapse_key, it is in the caller's memory and
+ * contains no pointer, every call under a key of zeros returns false, and any other memory must only be passed to
+ * deerlapse_xaes_init and deerlapse_xaes_wipe. The library draws no random bytes. A call leaves the derived key of its message
+ * on the stack. */
+typedef struct deerlapse_xaes {
+    uint64_t words[33]; /* private: neither read nor write them */
+} deerlapse_xaes;
+
+/* Expands a key. The previous bytes of `key` are not read. It cannot fail.
+ *
+ *   bytes   32 bytes, for example drawn at random */
+DEERLAPSE_CALL
+void deerlapse_xaes_init(deerlapse_xaes *key, const uint8_t bytes[DEERLAPSE_XAES_KEY_LEN]);
+
+/* Do the same as the calls whose names have `key` in the place of `xaes`, with XAES-256-GCM.
+ *
+ *   key     initialized by deerlapse_xaes_init, or zeros
+ *   nonce   24 bytes, never used twice under one key: random bytes for each message
+ *
+ * Return false if those calls do. */
+DEERLAPSE_NODISCARD
+bool deerlapse_xaes_seal(const deerlapse_xaes *key, const uint8_t nonce[DEERLAPSE_XAES_NONCE_LEN], const uint8_t *aad,
+                         size_t aad_len, uint8_t *in_out, size_t in_out_len, uint8_t tag[DEERLAPSE_TAG_LEN]);
+DEERLAPSE_NODISCARD
+bool deerlapse_xaes_open(const deerlapse_xaes *key, const uint8_t nonce[DEERLAPSE_XAES_NONCE_LEN], const uint8_t *aad,
+                         size_t aad_len, uint8_t *in_out, size_t in_out_len, size_t start, size_t *plaintext_len);
+DEERLAPSE_NODISCARD
+bool deerlapse_xaes_open_separate_tag(const deerlapse_xaes *key, const uint8_t nonce[DEERLAPSE_XAES_NONCE_LEN],
+                                      const uint8_t *aad, size_t aad_len, uint8_t *in_out, size_t in_out_len,
+                                      size_t start, const uint8_t tag[DEERLAPSE_TAG_LEN]);
+DEERLAPSE_WRAPS(1, 2, 8)
+bool deerlapse_xaes_seal_to(const deerlapse_xaes *key, const uint8_t nonce[DEERLAPSE_XAES_NONCE_LEN], const uint8_t *aad,
+                            size_t aad_len, const uint8_t *in, size_t in_len, uint8_t *out,
+                            uint8_t tag[DEERLAPSE_TAG_LEN]);
+DEERLAPSE_WRAPS(1, 2, 8)
+bool deerlapse_xaes_open_to(const deerlapse_xaes *key, const uint8_t nonce[DEERLAPSE_XAES_NONCE_LEN], const uint8_t *aad,
+                            size_t aad_len, const uint8_t *in, size_t in_len, uint8_t *out,
+                            const uint8_t tag[DEERLAPSE_TAG_LEN]);
+DEERLAPSE_WRAPS(1, 2, 7)
+bool deerlapse_xaes_seal_append_tag(const deerlapse_xaes *key, const uint8_t nonce[DEERLAPSE_XAES_NONCE_LEN],
+                                    const uint8_t *aad, size_t aad_len, const uint8_t *in, size_t in_len,
+                                    uint8_t *out);
+DEERLAPSE_WRAPS(1, 2)
+bool deerlapse_xaes_open_appended_tag(const deerlapse_xaes *key, const uint8_t nonce[DEERLAPSE_XAES_NONCE_LEN],
+                                      const uint8_t *aad, size_t aad_len, const uint8_t *in, size_t in_len,
+                                      uint8_t *out);
+
+/* The last four are inline, as those of a deerlapse_key are, and call these with the length of `out`. */
+DEERLAPSE_NODISCARD
+bool deerlapse_xaes_seal_to_sized(const deerlapse_xaes *key, const uint8_t nonce[DEERLAPSE_XAES_NONCE_LEN],
+                                  const uint8_t *aad, size_t aad_len, const uint8_t *in, size_t in_len, uint8_t *out,
+                                  size_t out_len, uint8_t tag[DEERLAPSE_TAG_LEN]);
+DEERLAPSE_NODISCARD
+bool deerlapse_xaes_open_to_sized(const deerlapse_xaes *key, const uint8_t nonce[DEERLAPSE_XAES_NONCE_LEN],
+                                  const uint8_t *aad, size_t aad_len, const uint8_t *in, size_t in_len, uint8_t *out,
+                                  size_t out_len, const uint8_t tag[DEERLAPSE_TAG_LEN]);
+DEERLAPSE_NODISCARD
+bool deerlapse_xaes_seal_append_tag_sized(const deerlapse_xaes *key, const uint8_t nonce[DEERLAPSE_XAES_NONCE_LEN],
+                                          const uint8_t *aad, size_t aad_len, const uint8_t *in, size_t in_len,
+                                          uint8_t *out, size_t out_len);
+DEERLAPSE_NODISCARD
+bool deerlapse_xaes_open_appended_tag_sized(const deerlapse_xaes *key, const uint8_t nonce[DEERLAPSE_XAES_NONCE_LEN],
+                                            const uint8_t *aad, size_t aad_len, const uint8_t *in, size_t in_len,
+                                            uint8_t *out, size_t out_len);
+
+/* Overwrites a key with zeros. Every call under it then returns false. This does not clear what earlier calls left on the
+ * stack. */
+DEERLAPSE_CALL
+void deerlapse_xaes_wipe(deerlapse_xaes *key);
 
 /* A key that seals each message under its own nonce: an IV XOR the message's number, in eight big-endian bytes after four
  * zeros (RFC 8446 section 5.3, RFC 9001 section 5.3). It is in the caller's memory, and deerlapse_sealer_init initializes
@@ -725,6 +802,77 @@ bool deerlapse_open_nullable(const uint8_t *key, size_t key_len, const uint8_t n
                           deerlapse_to_write(in_out, in_out_len), in_out_len, start, plaintext_len);
 }
 #define deerlapse_open deerlapse_open_nullable
+
+DEERLAPSE_WRAPS(1, 2, 7)
+bool deerlapse_xaes_seal_nullable(const deerlapse_xaes *key, const uint8_t nonce[DEERLAPSE_XAES_NONCE_LEN],
+                                  const uint8_t *aad, size_t aad_len, uint8_t *in_out, size_t in_out_len,
+                                  uint8_t tag[DEERLAPSE_TAG_LEN]) {
+    return deerlapse_xaes_seal(key, nonce, deerlapse_to_read(aad, aad_len), aad_len,
+                               deerlapse_to_write(in_out, in_out_len), in_out_len, tag);
+}
+#define deerlapse_xaes_seal deerlapse_xaes_seal_nullable
+
+DEERLAPSE_WRAPS(1, 2, 8)
+bool deerlapse_xaes_open_nullable(const deerlapse_xaes *key, const uint8_t nonce[DEERLAPSE_XAES_NONCE_LEN],
+                                  const uint8_t *aad, size_t aad_len, uint8_t *in_out, size_t in_out_len,
+                                  size_t start, size_t *plaintext_len) {
+    return deerlapse_xaes_open(key, nonce, deerlapse_to_read(aad, aad_len), aad_len,
+                               deerlapse_to_write(in_out, in_out_len), in_out_len, start, plaintext_len);
+}
+#define deerlapse_xaes_open deerlapse_xaes_open_nullable
+
+DEERLAPSE_WRAPS(1, 2, 8)
+bool deerlapse_xaes_open_separate_tag_nullable(const deerlapse_xaes *key, const uint8_t nonce[DEERLAPSE_XAES_NONCE_LEN],
+                                               const uint8_t *aad, size_t aad_len, uint8_t *in_out,
+                                               size_t in_out_len, size_t start,
+                                               const uint8_t tag[DEERLAPSE_TAG_LEN]) {
+    return deerlapse_xaes_open_separate_tag(key, nonce, deerlapse_to_read(aad, aad_len), aad_len,
+                                            deerlapse_to_write(in_out, in_out_len), in_out_len, start, tag);
+}
+#define deerlapse_xaes_open_separate_tag deerlapse_xaes_open_separate_tag_nullable
+
+DEERLAPSE_WRAPS(1, 2, 8)
+bool deerlapse_xaes_seal_to(const deerlapse_xaes *key, const uint8_t nonce[DEERLAPSE_XAES_NONCE_LEN], const uint8_t *aad,
+                            size_t aad_len, const uint8_t *in, size_t in_len, uint8_t *out,
+                            uint8_t tag[DEERLAPSE_TAG_LEN]) {
+    if (in == out) return deerlapse_xaes_seal(key, nonce, aad, aad_len, out, in_len, tag);
+    return deerlapse_xaes_seal_to_sized(key, nonce, deerlapse_to_read(aad, aad_len), aad_len,
+                                        deerlapse_to_read(in, in_len), in_len, deerlapse_to_write(out, in_len), in_len,
+                                        tag);
+}
+
+DEERLAPSE_WRAPS(1, 2, 8)
+bool deerlapse_xaes_open_to(const deerlapse_xaes *key, const uint8_t nonce[DEERLAPSE_XAES_NONCE_LEN], const uint8_t *aad,
+                            size_t aad_len, const uint8_t *in, size_t in_len, uint8_t *out,
+                            const uint8_t tag[DEERLAPSE_TAG_LEN]) {
+    if (in == out) return deerlapse_xaes_open_separate_tag(key, nonce, aad, aad_len, out, in_len, 0, tag);
+    return deerlapse_xaes_open_to_sized(key, nonce, deerlapse_to_read(aad, aad_len), aad_len,
+                                        deerlapse_to_read(in, in_len), in_len, deerlapse_to_write(out, in_len), in_len,
+                                        tag);
+}
+
+DEERLAPSE_WRAPS(1, 2, 7)
+bool deerlapse_xaes_seal_append_tag(const deerlapse_xaes *key, const uint8_t nonce[DEERLAPSE_XAES_NONCE_LEN],
+                                    const uint8_t *aad, size_t aad_len, const uint8_t *in, size_t in_len,
+                                    uint8_t *out) {
+    /* Above 2^36 - 32, the call in place would refuse the length, and out + in_len may be no pointer. */
+    if (in == out && in_len > 0xfffffffe0) return false;
+    if (in == out) return deerlapse_xaes_seal(key, nonce, aad, aad_len, out, in_len, out + in_len);
+    return deerlapse_xaes_seal_append_tag_sized(key, nonce, deerlapse_to_read(aad, aad_len), aad_len,
+                                                deerlapse_to_read(in, in_len), in_len, out,
+                                                in_len + DEERLAPSE_TAG_LEN);
+}
+
+DEERLAPSE_WRAPS(1, 2)
+bool deerlapse_xaes_open_appended_tag(const deerlapse_xaes *key, const uint8_t nonce[DEERLAPSE_XAES_NONCE_LEN],
+                                      const uint8_t *aad, size_t aad_len, const uint8_t *in, size_t in_len,
+                                      uint8_t *out) {
+    size_t out_len = in_len - DEERLAPSE_TAG_LEN;
+    if (in_len < DEERLAPSE_TAG_LEN) return false;
+    if (in == out) return deerlapse_xaes_open(key, nonce, aad, aad_len, out, in_len, 0, &out_len);
+    return deerlapse_xaes_open_appended_tag_sized(key, nonce, deerlapse_to_read(aad, aad_len), aad_len, in, in_len,
+                                                  deerlapse_to_write(out, out_len), out_len);
+}
 
 DEERLAPSE_WRAPS(1, 4)
 bool deerlapse_sealer_init_nullable(deerlapse_sealer *sealer, const uint8_t *key, size_t key_len,
