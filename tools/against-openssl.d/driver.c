@@ -344,9 +344,11 @@ static void refuses(const sealing *s, open_way *way) {
     flip_a_bit(changed.key, s->key_len);
     refuses_to_open(&changed, way, s->sealed, all, 0);
     memcpy(changed.key, s->key, sizeof s->key);
-    if (!s->is_xaes) changed.key_len = 48 - s->key_len;
-    if (!s->is_xaes) refuses_to_open(&changed, way, s->sealed, all, 0);
-    changed.key_len = s->key_len;
+    if (!s->is_xaes) {
+        changed.key_len = 48 - s->key_len;
+        refuses_to_open(&changed, way, s->sealed, all, 0);
+        changed.key_len = s->key_len;
+    }
     if (s->aad_len) flip_a_bit(changed.aad, s->aad_len);
     else changed.aad_len = 1;
     refuses_to_open(&changed, way, s->sealed, all, 0);
