@@ -1,5 +1,5 @@
 -- What a contract sees of an expanded key of XAES-256-GCM that is plain data.
-use Rattle.std.specs.Prelude.{◌≡◌, ℕ, List, replicate}
+use Rattle.std.specs.Prelude.{◌≡◌, ◌==◌, ℕ, List, replicate, if◌then◌else◌}
 use Rattle.aead_ciphers_base.specs.Aes.{aes}
 use Rattle.aead_ciphers_base.specs.Bytes.{zero_block}
 use Rattle.aead_ciphers_wide.specs.WideSchedule.{IsSchedule, key_of}
@@ -15,6 +15,10 @@ pub record IsExpanded (key : ExpandedKey) : Type 0 where
   pub rounds : key.rounds ≡ 14
   pub schedule : IsSchedule key.round_keys key.rounds
   pub subkey : key.subkey ≡ first_subkey (aes (bytes_of key) zero_block)
+
+-- the width of the planes on which batches of a message are encrypted, in bits
+abbrev pub message_width : ExpandedKey → ℕ
+message_width key = if key.width == 256 then 256 else 128
 
 -- the fields before a key is expanded: all zeros, which no key has
 abbrev pub zero_key : ExpandedKey

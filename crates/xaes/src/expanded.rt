@@ -5,7 +5,7 @@ ghost use Rattle.aead_ciphers_base.specs.Values.{aad_bytes};
 ghost use Rattle.aead_ciphers.specs.Gcm.{Fits};
 ghost use Rattle.aead_ciphers_wide.specs.ExpandedKey.{IsExpanded as IsGcmKey, bytes_of as gcm_key_bytes};
 ghost use Rattle.aead_ciphers_wide.specs.Width.{width_bits};
-ghost use Rattle.xaes.specs.Expanded.{IsExpanded, bytes_of, zero_key};
+ghost use Rattle.xaes.specs.Expanded.{IsExpanded, bytes_of, message_width, zero_key};
 ghost use Rattle.xaes.specs.Xaes.{XaesOpened, XaesOpenedAttached, message_key as message_key_of, message_nonce, xaes_decrypted, xaes_encrypted, xaes_tag};
 
 use crate::cmac::{Cmac, first_subkey};
@@ -74,8 +74,10 @@ impl ExpandedKey {
         )
     }
 
-    /// The width of the planes on which messages are encrypted. No contract says it, since no result depends on it.
-    fn width(&self) -> Width {
+    /// The width of the planes on which messages are encrypted.
+    fn width(&self) -> Width
+        ensures { width_bits result ≡ message_width self.now }
+    {
         if self.width == Width::Bits256.bits() {
             Width::Bits256
         } else {
@@ -85,15 +87,12 @@ impl ExpandedKey {
 
     /// Overwrites `message_key` with the expansion of the AES-256-GCM key that is derived for the first half of this nonce, and
     /// returns the last half, which is the nonce of AES-256-GCM.
-    pub fn expand_message_key(
-        &self,
-        nonce: XNonce,
-        message_key: &mut aes_gcm::ExpandedKey,
-    ) -> Nonce
+    pub fn expand_message_key(&self, nonce: XNonce, message_key: &mut aes_gcm::ExpandedKey) -> Nonce
         requires { IsExpanded self.now }
         ensures expanded { IsGcmKey message_key.new }
         ensures bytes { gcm_key_bytes message_key.new ≡ message_key_of (bytes_of self.now) nonce }
         ensures nonce { result ≡ message_nonce nonce }
+        ensures width { message_key.new.width ≡ message_width self.now }
     {
         let bytes = self.cmac().derived_key(&nonce.context());
         message_key.expand_with_width(KeyBytes::AES_256(&bytes), self.width(), &mut Work::new());
