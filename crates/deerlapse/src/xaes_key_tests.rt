@@ -8,7 +8,9 @@ use crate::xaes_key::{
     deerlapse_xaes_open_separate_tag, deerlapse_xaes_open_to_sized, deerlapse_xaes_seal,
     deerlapse_xaes_seal_append_tag_sized, deerlapse_xaes_seal_to_sized, deerlapse_xaes_wipe,
 };
+use std::alloc::Global;
 use std::process::Abort;
+use std::test::Fail;
 use xaes::ExpandedKey;
 
 const NONCE: [u8; 24] = *b"ABCDEFGHIJKLMNOPQRSTUVWX";
@@ -42,33 +44,31 @@ const VECTORS: [Vector; 2] = [
 ];
 
 /// Seals in place, and opens behind three other bytes.
-fn in_place(rt: &impl Abort, key: &ExpandedKey, row: &Vector)
+fn in_place(rt: &impl Abort, alloc: Global, key: &ExpandedKey, row: &Vector) -> Result<(), Fail>
     requires { IsXaesKeyOrNone key.now }
 {
-    let mut buffer = [7; 31];
+    let mut bytes = MESSAGE.to_vec(alloc)?;
     let mut tag = [0; 16];
-    buffer[3..15].copy_from_slice(&MESSAGE);
-    let sealed = deerlapse_xaes_seal(key, &NONCE, row.aad, &mut buffer[3..15], &mut tag);
+    let sealed = deerlapse_xaes_seal(key, &NONCE, row.aad, &mut bytes, &mut tag);
     accepted(rt, sealed, "in place");
-    same(rt, &buffer[3..15], &row.sealed[..12], "in place");
+    same(rt, &bytes, &row.sealed[..12], "in place");
     same(rt, &tag, &row.sealed[12..], "in place");
-    buffer[15..].copy_from_slice(&tag);
-    let mut separate = buffer;
+
+    let mut bytes = [1, 2, 3].to_vec(alloc)?;
+    bytes.extend_from_slice(&row.sealed)?;
     let mut len = 0;
-    let opened = deerlapse_xaes_open(key, &NONCE, row.aad, &mut buffer, 3, &mut len);
+    let opened = deerlapse_xaes_open(key, &NONCE, row.aad, &mut bytes, 3, &mut len);
     accepted(rt, opened, "in place");
-    equal(rt, &len, &12, "in place");
-    same(rt, &buffer[..12], &MESSAGE, "in place");
-    let opened = deerlapse_xaes_open_separate_tag(
-        key,
-        &NONCE,
-        row.aad,
-        &mut separate[..15],
-        3,
-        &tag,
-    );
+    let plaintext = bytes.get(..len).ok_or("a plaintext's length")?;
+    same(rt, plaintext, &MESSAGE, "in place");
+
+    let mut bytes = [1, 2, 3].to_vec(alloc)?;
+    bytes.extend_from_slice(&row.sealed[..12])?;
+    let opened = deerlapse_xaes_open_separate_tag(key, &NONCE, row.aad, &mut bytes, 3, &tag);
     accepted(rt, opened, "a separate tag");
-    same(rt, &separate[..12], &MESSAGE, "a separate tag");
+    let plaintext = bytes.get(..12).ok_or("a plaintext's length")?;
+    same(rt, plaintext, &MESSAGE, "a separate tag");
+    Ok(())
 }
 
 /// Seals and opens from one buffer to another.
@@ -118,12 +118,13 @@ fn refuses(rt: &impl Abort, key: &mut ExpandedKey, row: &Vector)
 }
 
 #[test]
-fn xaes_256_gcm(rt: HostRuntime) {
+fn xaes_256_gcm(rt: HostRuntime) -> Result<(), Fail> {
     for row in &VECTORS {
         let mut key = ExpandedKey::zeros();
         deerlapse_xaes_init(&mut key, &[row.key_byte; 32]);
-        in_place(&rt, &key, row);
+        in_place(&rt, rt.alloc(), &key, row)?;
         out_of_place(&rt, &key, row);
         refuses(&rt, &mut key, row);
     }
+    Ok(())
 }
