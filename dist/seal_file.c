@@ -3,8 +3,8 @@
  *     cc seal_file.c seal_file-x86_64-v2.s -o seal_file
  *
  * Here are the functions that the toolchain's crates `libc` and `os` take from C, and what Rattle has no calls for: the test of
- * the processor, signals, and a passphrase that is typed. The assembly begins at rattle_main, and calls rattle_open, rattle_rename
- * and rattle_unlink, so that the handler of a signal knows which files to remove. */
+ * the processor, signals, and a passphrase that is typed. The assembly begins at rattle_main, and calls rattle_open,
+ * rattle_rename and rattle_unlink, so that the handler of a signal knows which files to remove. */
 #define _DEFAULT_SOURCE
 #include "deerlapse.h"
 
@@ -81,7 +81,7 @@ int statx(int folder, const char *path, int flags, unsigned mask, void *to) {
 }
 #endif
 
-/* Signals. One that ends the program still does, after unfinished files are removed and the terminal shows again what is typed. */
+/* Signals. One that ends the program still does, after unfinished files are removed and the terminal shows what is typed. */
 
 /* The names of the new files: one beside OUT and, in a file system without hard links, OUT itself, which is empty at first.
  * Signals are blocked while a name is put here or taken away. */
