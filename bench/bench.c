@@ -7,8 +7,8 @@
  *   -o NAME   of the peers OpenSSL alone, which is called NAME
  *   SECONDS   for each row and length of the key, more if the fewest turns take longer
  *   WORD..    only the rows that have one of the words in their name
- *   -c        makes so many calls of the peer in one row, or of the library if the peer is "Ours", and prints nothing:
- *             `bench/instructions` counts the instructions. The status is 3 if the row doesn't have that peer
+ *   -c        makes so many calls of the peer in one row, or of the library if the peer is "Ours", and prints eight bytes of
+ *             what was made: `bench/instructions` counts the instructions. The status is 3 if the row doesn't have that peer
  *
  * Both lengths of the key take their turns together, under one load. A row is timed again, at most TRIES times, while the
  * median time of the library differs from its least time by more than a tenth.
@@ -23,6 +23,7 @@
  */
 #define _POSIX_C_SOURCE 200809L
 #include "bench.h"
+#include <inttypes.h>
 #include <stdbool.h>
 #include <stdio.h>
 #include <stdlib.h>
@@ -152,6 +153,10 @@ static const peer all_peers[] = {
 #endif
 #ifdef WITH_OPENSSL
     {"OpenSSL", &openssl, {0}},
+#endif
+#ifdef ON_ARM64
+    {"ring", &ring, {0}},
+    {"RustCrypto", &rust_crypto, {0}},
 #endif
 #ifdef WITH_V3
     {"x86-64-v2", &calls, {&calls_v3}},
@@ -377,7 +382,7 @@ static bool time_rows(const peer *peers, int peer_count, double seconds, char **
     return fine;
 }
 
-/* Makes calls of one side in one row. Returns false where there is none. */
+/* Makes calls of one side in one row, and prints what they return. Returns false where there is none. */
 static bool make_calls(const char *peer_name, uint64_t times, const char *row_name) {
     for (const row *r = rows; r < rows + sizeof rows / sizeof rows[0]; r++) {
         for (int i = 0; i < MAX_COLUMNS && r->key_lens[i]; i++) {
@@ -389,7 +394,7 @@ static bool make_calls(const char *peer_name, uint64_t times, const char *row_na
             }
             if (!made) return false;
             fill_buffer(of.len);
-            run(made, times, &of);
+            printf("%016" PRIx64 "\n", run(made, times, &of));
             return true;
         }
     }

@@ -10,6 +10,12 @@
 #include <stdint.h>
 #include <string.h>
 
+#ifdef ON_ARM64 /* The program of bench/arm64 has the calls for C alone: its rows of libraries are of them. */
+#define library calls
+#define wide calls
+#define less_safe_key calls
+#endif
+
 enum { NONCE_LEN = 12, TAG_LEN = 16, SAMPLE_LEN = 16, MASK_LEN = 5, BLOCK_LEN = 16 };
 
 typedef enum {
@@ -55,6 +61,8 @@ extern const side calls_v3;      /* those of the text for x86-64-v3 in dist/ */
 extern const side bearssl;       /* BearSSL as the system has it */
 extern const side bearssl_clang; /* BearSSL's sources, by the compiler of the library */
 extern const side openssl;
+extern const side ring;          /* on ARM64 */
+extern const side rust_crypto;   /* RustCrypto's aes-gcm, on ARM64 */
 
 static const uint8_t nonce[NONCE_LEN] = {1, 1, 1, 1, 1, 1, 1, 1, 1, 1, 1, 1};
 
