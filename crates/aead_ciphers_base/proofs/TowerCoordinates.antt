@@ -124,23 +124,22 @@ inverts_is x y h =
       | inr least ↦ eqb-true y (inv x) least
     ]
 
-abbrev pub inverse_16_by : (ℕ → ℕ → ℕ) → List Bool → List Bool
-inverse_16_by mul n =
-    let c = product_4_by mul (drop 2 n) (take 2 n) in
-    let s = both_2 n in
-    let n10 = (coefficient c 1 xor coefficient s 1) ∷ (coefficient c 0 xor coefficient s 0 xor coefficient s 1) ∷ [] in
-    let low = product_4_by mul n10 (drop 2 n) in
-    let high = product_4_by mul n10 (take 2 n) in
-    coefficient low 0 ∷ coefficient low 1 ∷ coefficient high 0 ∷ coefficient high 1 ∷ []
+abbrev pub inverse_16 : List Bool → List Bool
+inverse_16 (n0 ∷ n1 ∷ n2 ∷ n3 ∷ []) =
+    let both0 = n0 && n2 in
+    let both1 = n1 && n3 in
+    (n2 xor ((n2 xor n3) && (n0 xor both1))) ∷ ((n2 xor n3) xor (n3 && ((n0 xor n1) xor both0)))
+    ∷ (n0 xor ((n0 xor n1) && (n2 xor both1))) ∷ ((n0 xor n1) xor (n1 && ((n2 xor n3) xor both0))) ∷ []
+inverse_16 _ = []
 
 abbrev inverse_16_holds : (ℕ → ℕ → ℕ) → List Bool → Bool
-inverse_16_holds mul n = inverts mul (element basis_16 n) (element basis_16 (inverse_16_by mul n))
+inverse_16_holds mul n = inverts mul (element basis_16 n) (element basis_16 (inverse_16 n))
 
 inverse_16_test : all_below (λ n. inverse_16_holds mul8 (bits_of 4 n)) 16 ≡ true
-unfolding coordinates number_of element basis_4 basis_16
+unfolding element basis_16
 inverse_16_test = by_fast_mul8 (λ mul. all_below (λ n. inverse_16_holds mul (bits_of 4 n)) 16) refl
 
-pub inverse_16_is : (n : List ℕ) (p : ℕ) → element basis_16 (inverse_16_by mul8 (plane_polynomial 4 n p)) ≡ inv (plane_element basis_16 n p)
+pub inverse_16_is : (n : List ℕ) (p : ℕ) → element basis_16 (inverse_16 (plane_polynomial 4 n p)) ≡ inv (plane_element basis_16 n p)
 unfolding plane_element plane_polynomial basis_16
 inverse_16_is n p =
     let q = plane_polynomial 4 n p in
@@ -151,8 +150,8 @@ abbrev power_17_by : (ℕ → ℕ → ℕ) → List Bool → List Bool
 power_17_by mul (a0 ∷ a1 ∷ a2 ∷ a3 ∷ a4 ∷ a5 ∷ a6 ∷ a7 ∷ []) =
     let c = coordinates basis_16 (mul (element basis_16 (a0 ∷ a1 ∷ a2 ∷ a3 ∷ []))
     (element basis_16 (a4 ∷ a5 ∷ a6 ∷ a7 ∷ []))) in
-    let s0 = a0 xor a4 in let s1 = a1 xor a5 in let s2 = a2 xor a6 in let s3 = a3 xor a7 in
-    (coefficient c 0 xor s1 xor s3) ∷ (coefficient c 1 xor s0 xor s2) ∷ (coefficient c 2 xor s2) ∷ (coefficient c 3 xor s2 xor s3) ∷ []
+    (coefficient c 0 xor ((a1 xor a3) xor (a5 xor a7))) ∷ (coefficient c 1 xor ((a0 xor a2) xor (a4 xor a6)))
+    ∷ (coefficient c 2 xor (a2 xor a6)) ∷ (coefficient c 3 xor ((a2 xor a3) xor (a6 xor a7))) ∷ []
 power_17_by mul _ = []
 
 -- the inverse, by that of the power 17
@@ -169,7 +168,7 @@ inverse_by mul inv a = inverse_from mul (inv (element basis_16 (power_17_by mul 
 
 abbrev inverse_holds : (ℕ → ℕ → ℕ) → List Bool → Bool
 inverse_holds mul a =
-    let a238 = element basis_16 (inverse_16_by mul (power_17_by mul a)) in
+    let a238 = element basis_16 (inverse_16 (power_17_by mul a)) in
     inverts mul (element basis_256 a) (element basis_256 (inverse_from mul a238 a))
 
 inverse_test : all_below (λ n. inverse_holds mul8 (bits_of 8 n)) 256 ≡ true
@@ -181,7 +180,7 @@ unfolding plane_element plane_polynomial basis_256
 inverse_is a p =
     let q = plane_polynomial 8 a p in
     let r = power_17_by mul8 q in
-    let a238 = element basis_16 (inverse_16_by mul8 r) in
+    let a238 = element basis_16 (inverse_16 r) in
     let inner = inverts_is (element basis_16 r) a238 (all_at_bits (inverse_16_holds mul8) r inverse_16_test) in
     ap (λ t. element basis_256 (inverse_from mul8 t q)) (sym inner)
     ∙ inverts_is _ _ (all_at_bits (inverse_holds mul8) q inverse_test)
@@ -207,8 +206,8 @@ affine_of (a0 ∷ a1 ∷ a2 ∷ a3 ∷ a4 ∷ a5 ∷ a6 ∷ a7 ∷ []) =
     let a17 = a1 xor a7 in
     let a157 = a5 xor a17 in
     let a24 = a2 xor a4 in
-    let a36 = a3 xor a6 in
-    (a4 xor a36 xor true) ∷ (a7 xor a36 xor true) ∷ (a0 xor (a17 xor a24)) ∷ (a6 xor (a4 xor a157))
+    let not_a36 = a3 xor a6 xor true in
+    (a4 xor not_a36) ∷ (a7 xor not_a36) ∷ (a0 xor (a17 xor a24)) ∷ (a6 xor (a4 xor a157))
     ∷ a157 ∷ (a24 xor true) ∷ (a1 xor a5 xor true) ∷ a17 ∷ []
 affine_of _ = []
 

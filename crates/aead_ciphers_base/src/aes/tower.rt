@@ -1,10 +1,10 @@
 //! The inverse and the affine transformation of the S-box (FIPS 197 section 5.1.1) on planes. The
-//! inverse is x^254, computed by four products in a tower of fields.
+//! inverse is x^254, computed in a tower of fields.
 //!
 //! The field of 256 elements is an extension of a field of 16, and that one of a field of 4. Each has a
 //! normal basis: the powers 16, 4 and 2 exchange the two halves of the coordinates. Therefore x^17, an
-//! element of the field of 16, takes four planes, and x^85, an element of the field of 4, takes two:
-//! x^17 = x * x^16, x^85 = x^17 * x^68, x^238 = x^68 * (x^85)^2, x^254 = x^16 * x^238.
+//! element of the field of 16, takes four planes, as does its inverse x^238:
+//! x^17 = x * x^16, x^254 = x^16 * x^238.
 
 ghost use Rattle.std.specs.Prelude.{◌≡◌, ◌<◌, ℕ, map};
 ghost use Rattle.aead_ciphers_base.specs.ByteField.{mul8, affine, inv, sbox};
@@ -40,20 +40,23 @@ fn multiply_16<W: Plane>(a: [W; 4], b: [W; 4]) -> [W; 4]
     [low0 ^ scaled, low1 ^ both0, high0 ^ scaled, high1 ^ both0]
 }
 
-/// Inverts in the field of 16: n^14 = n^4 * (n^5)^2, and n^5 is in the field of 4.
+/// Inverts in the field of 16. Each coordinate of the inverse is a polynomial in those of n. The power 4
+/// exchanges the halves of n and those of its inverse, so the last two polynomials are the first two
+/// with the halves of n exchanged.
 #[inline(always)]
 fn invert_16<W: Plane>(n: [W; 4]) -> [W; 4]
     ensures { (p : ℕ) → plane_element basis_16 (map W.number result) p
         ≡ inv (plane_element basis_16 (map W.number n) p) }
 {
     let [n0, n1, n2, n3] = n;
-    let [c0, c1] = multiply_4([n2, n3], [n0, n1]);
-    let s0 = n0 ^ n2;
-    let s1 = n1 ^ n3;
-    let n10 = [c1 ^ s1, c0 ^ s0 ^ s1];
-    let [low0, low1] = multiply_4(n10, [n2, n3]);
-    let [high0, high1] = multiply_4(n10, [n0, n1]);
-    [low0, low1, high0, high1]
+    let both0 = n0 & n2;
+    let both1 = n1 & n3;
+    [
+        n2 ^ ((n2 ^ n3) & (n0 ^ both1)),
+        (n2 ^ n3) ^ (n3 & ((n0 ^ n1) ^ both0)),
+        n0 ^ ((n0 ^ n1) & (n2 ^ both1)),
+        (n0 ^ n1) ^ (n1 & ((n2 ^ n3) ^ both0)),
+    ]
 }
 
 /// Inverts each byte, in coordinates of the tower: a^254 = a^16 * (a^17)^14, and a^17 is in the field of 16.
@@ -66,11 +69,13 @@ fn invert<W: Plane>(a: [W; 8]) -> [W; 8]
     let low = [a0, a1, a2, a3];
     let high = [a4, a5, a6, a7];
     let [c0, c1, c2, c3] = multiply_16(low, high);
-    let s0 = a0 ^ a4;
-    let s1 = a1 ^ a5;
-    let s2 = a2 ^ a6;
-    let s3 = a3 ^ a7;
-    let a17 = [c0 ^ s1 ^ s3, c1 ^ s0 ^ s2, c2 ^ s2, c3 ^ s2 ^ s3];
+    // `multiply_16` takes the same sums of two coordinates of a half, so they are computed once.
+    let a17 = [
+        c0 ^ ((a1 ^ a3) ^ (a5 ^ a7)),
+        c1 ^ ((a0 ^ a2) ^ (a4 ^ a6)),
+        c2 ^ (a2 ^ a6),
+        c3 ^ ((a2 ^ a3) ^ (a6 ^ a7)),
+    ];
     let a238 = invert_16(a17);
     let [r0, r1, r2, r3] = multiply_16(high, a238);
     let [r4, r5, r6, r7] = multiply_16(low, a238);
@@ -111,10 +116,10 @@ fn map_affine<W: Plane>(a: [W; 8]) -> [W; 8]
     let a17 = a1 ^ a7;
     let a157 = a5 ^ a17;
     let a24 = a2 ^ a4;
-    let a36 = a3 ^ a6;
+    let not_a36 = a3 ^ a6 ^ ones;
     [
-        a4 ^ a36 ^ ones,
-        a7 ^ a36 ^ ones,
+        a4 ^ not_a36,
+        a7 ^ not_a36,
         a0 ^ (a17 ^ a24),
         a6 ^ (a4 ^ a157),
         a157,

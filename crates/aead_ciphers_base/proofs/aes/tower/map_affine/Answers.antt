@@ -25,8 +25,8 @@ returns g c = λ p lt.
       laws.xor_is _ _ _ c.bitxor-a17.ensures,
       laws.xor_is _ _ _ c.bitxor-a157.ensures,
       laws.xor_is _ _ _ c.bitxor-a24.ensures,
-      laws.xor_is _ _ _ c.bitxor-a36.ensures,
       laws.xor_is _ _ _ c.bitxor.ensures,
+      laws.xor_is _ _ _ c.bitxor-not_a36.ensures,
       laws.xor_is _ _ _ c.bitxor-2.ensures,
       laws.xor_is _ _ _ c.bitxor-3.ensures,
       laws.xor_is _ _ _ c.bitxor-4.ensures,
@@ -36,7 +36,6 @@ returns g c = λ p lt.
       laws.xor_is _ _ _ c.bitxor-8.ensures,
       laws.xor_is _ _ _ c.bitxor-9.ensures,
       laws.xor_is _ _ _ c.bitxor-10.ensures,
-      laws.xor_is _ _ _ c.bitxor-11.ensures,
       set-xor,
       ones,
     ) (affine_is (map number c.args.a) p)
