@@ -2,9 +2,7 @@
 -- When a message is sealed or opened, its buffer is one list equation, `front ++ drop d was`, and each step replaces a further
 -- part of the front.
 use Rattle.std.proofs.Common.{◌≡◌, ℕ, ◌+◌, ◌-◌, ◌*◌, ◌/◌, ◌%◌, ◌≤◌, List, ◌++◌, length, take, drop, refl, sym, ap, ap₂, ◌∙◌, arith, append-nil, length-append, length-take, length-take-le, length-drop, take_all, take_at, drop_at, append_assoc}
-use Rattle.std.specs.Int.{div_ceil}
-use Rattle.std.proofs.lemmas.List.{drop_all, drop-take, take-append-le, take-take}
-use Rattle.std.proofs.Math.Seq.{take-add}
+use Rattle.std.proofs.lemmas.List.{drop_all, drop-take, take-append-le}
 use Rattle.aead_ciphers_base.specs
 use specs.Bytes.{zero_block}
 use specs.CounterMode.{IsCounter, counter_block, counter_mode}
@@ -36,20 +34,19 @@ encrypted_piece cipher nonce k d n text before piece after behind room ld ln e =
     ∙ drop-take d n (counter_mode cipher nonce k text)
 
 -- the last bytes, those from s on, were encrypted in the front of a buffer of their own, and put to the front
-pub put_rest : (cipher : List ℕ → List ℕ) (nonce : List ℕ) (k s w : ℕ) (xs input pad last rest copied : List ℕ) {out : List ℕ}
-    → s ≤ length xs → length xs - s ≤ w → input ≡ drop s xs → out ≡ counter_mode cipher nonce k (take w (input ++ pad)) ++ last
-    → copied ≡ take (length xs - s) (out ++ rest)
+pub put_rest : (cipher : List ℕ → List ℕ) (nonce : List ℕ) (k s : ℕ) (xs input pad last copied : List ℕ) {out : List ℕ}
+    → s ≤ length xs → input ≡ drop s xs → out ≡ counter_mode cipher nonce k (input ++ pad) ++ last → copied ≡ take (length xs - s) out
     → copied ++ drop (length xs - s) xs ≡ counter_mode cipher nonce k (drop s xs) ++ drop (length xs - s) xs
-put_rest cipher nonce k s w xs input pad last rest copied within room ie oe ce =
+put_rest cipher nonce k s xs input pad last copied within ie oe ce =
     let n = length xs - s in
-    let text = take w (input ++ pad) in
+    let text = input ++ pad in
     let len : length input ≡ n = ap length ie ∙ length-drop s xs in
-    let fits : n ≤ length text = omega (arith, length-take w (input ++ pad), length-append input pad) in
+    let fits : n ≤ length text = omega (arith, length-append input pad) in
     ap (λ u. u ++ drop n xs)
-    (ce ∙ ap (λ u. take n (u ++ rest)) oe ∙ ap (take n) (append_assoc (counter_mode cipher nonce k text) last rest)
-    ∙ take-append-le n (counter_mode cipher nonce k text) (last ++ rest) (omega (arith, fits, length-counter_mode cipher nonce k text))
+    (ce ∙ ap (take n) oe
+    ∙ take-append-le n (counter_mode cipher nonce k text) last (omega (arith, fits, length-counter_mode cipher nonce k text))
     ∙ take-counter_mode cipher nonce k n text fits
-    ∙ ap (counter_mode cipher nonce k) (take-take n w (input ++ pad) room ∙ take_at input pad n len ∙ ie))
+    ∙ ap (counter_mode cipher nonce k) (take_at input pad n len ∙ ie))
 
 -- counter mode of a block of zeros and a text: the cipher of the counter block, and the text from the next on
 pub zeros_and_text : (cipher : List ℕ → List ℕ) (nonce : List ℕ) (k : ℕ) (text : List ℕ) → length (cipher (counter_block nonce k)) ≡ 16
@@ -61,29 +58,25 @@ zeros_and_text cipher nonce k text size =
     ∙ ap (λ u. u ++ counter_mode cipher nonce (k + 1) text)
     (sym (counter_mode-short cipher nonce k zero_block mask (omega arith) (omega (arith, size)) refl) ∙ xor_comm zero_block mask ∙ xor_zeros mask 16 size)
 
--- A message after a block of zeros, encrypted from counter block 1 on in w bytes: first the cipher of that counter block, then the message
--- from block 2 on.
-pub short_message : (cipher : List ℕ → List ℕ) (nonce : List ℕ) (w n : ℕ) (message pad last rest : List ℕ) {out : List ℕ}
-    → length (cipher (counter_block nonce 1)) ≡ 16 → length message ≡ n → 16 + n ≤ w
-    → out ≡ counter_mode cipher nonce 1 (take w (zero_block ++ (message ++ pad))) ++ last
-    → (take 16 (out ++ rest) ≡ cipher (counter_block nonce 1)) × (take n (drop 16 (out ++ rest)) ≡ counter_mode cipher nonce 2 message)
-short_message cipher nonce w n message pad last rest size len room e =
+-- A message after a block of zeros, encrypted from counter block 1 on: first the cipher of that counter block, then the message from
+-- block 2 on.
+pub short_message : (cipher : List ℕ → List ℕ) (nonce : List ℕ) (n : ℕ) (zeros message pad last : List ℕ) {out : List ℕ}
+    → length (cipher (counter_block nonce 1)) ≡ 16 → zeros ≡ zero_block → length message ≡ n
+    → out ≡ counter_mode cipher nonce 1 (zeros ++ (message ++ pad)) ++ last
+    → (take 16 out ≡ cipher (counter_block nonce 1)) × (take n (drop 16 out) ≡ counter_mode cipher nonce 2 message)
+short_message cipher nonce n zeros message pad last size are len e =
     let text = message ++ pad in
-    let v = w - 16 in
     let mask = cipher (counter_block nonce 1) in
-    let tail = counter_mode cipher nonce 2 (take v text) in
-    let width : w ≡ 16 + v = omega arith in
-    let cut = ap (λ k. take k (zero_block ++ text)) width ∙ take-add 16 v (zero_block ++ text) in
-    let parts = ap (counter_mode cipher nonce 1) cut ∙ zeros_and_text cipher nonce 1 (take v text) size in
-    let whole =
-    ap (λ u. u ++ rest) (e ∙ ap (λ u. u ++ last) parts) ∙ append_assoc (mask ++ tail) last rest ∙ append_assoc mask tail (last ++ rest) in
-    let fits : n ≤ length (take v text) = omega (arith, length-take v text, length-append message pad) in (
-      ap (take 16) whole ∙ take_at mask (tail ++ (last ++ rest)) 16 size,
+    let tail = counter_mode cipher nonce 2 text in
+    let parts = ap (λ u. counter_mode cipher nonce 1 (u ++ text)) are ∙ zeros_and_text cipher nonce 1 text size in
+    let whole = e ∙ ap (λ u. u ++ last) parts ∙ append_assoc mask tail last in
+    let fits : n ≤ length text = omega (arith, length-append message pad) in (
+      ap (take 16) whole ∙ take_at mask (tail ++ last) 16 size,
       ap (λ u. take n (drop 16 u)) whole
-          ∙ ap (take n) (drop_at mask (tail ++ (last ++ rest)) 16 size)
-          ∙ take-append-le n tail (last ++ rest) (omega (arith, fits, length-counter_mode cipher nonce 2 (take v text)))
-          ∙ take-counter_mode cipher nonce 2 n (take v text) (omega (arith, fits))
-          ∙ ap (counter_mode cipher nonce 2) (take-take n v text (omega arith) ∙ take_at message pad n len),
+          ∙ ap (take n) (drop_at mask (tail ++ last) 16 size)
+          ∙ take-append-le n tail last (omega (arith, fits, length-counter_mode cipher nonce 2 text))
+          ∙ take-counter_mode cipher nonce 2 n text fits
+          ∙ ap (counter_mode cipher nonce 2) (take_at message pad n len),
     )
 
 -- a piece was put in the place of another of its length
@@ -93,13 +86,12 @@ put_length d n xs piece same =
     length-append (take d xs) (piece ++ drop n (drop d xs))
     ∙ omega (arith, same, length-append piece (drop n (drop d xs)), length-take d xs, length-take n (drop d xs), length-drop n (drop d xs), length-drop d xs)
 
--- the front of a list of whole blocks, up to the end of the block that holds byte e - 1
-pub blocks_length : (e q most : ℕ) (xs : List ℕ) → q ≡ div_ceil e 16 → e ≤ most → most % 16 ≡ 0 → length xs ≡ most → length (take (q * 16) xs) ≡ q * 16
-blocks_length e q most xs is fits whole size = length-take-le (q * 16) xs (omega arith)
+-- the blocks that e bytes fill or begin: they have room for the bytes, are whole, and are so many
+pub blocks_room : (e size : ℕ) → size ≡ (e + 15) / 16 * 16 → e ≤ size
+blocks_room e size is = omega arith
 
--- these blocks are whole, and how many they are
-pub blocks_whole : (q size : ℕ) → size ≡ q * 16 → (size - 0) % 16 ≡ 0
-blocks_whole q size is = omega arith
+pub blocks_whole : (e size : ℕ) → size ≡ (e + 15) / 16 * 16 → (size - 0) % 16 ≡ 0
+blocks_whole e size is = omega arith
 
-pub blocks_count : (e q size : ℕ) → q ≡ div_ceil e 16 → size ≡ q * 16 → (size - 0) / 16 ≡ (e + 15) / 16
-blocks_count e q size is all = omega arith
+pub blocks_count : (e size : ℕ) → size ≡ (e + 15) / 16 * 16 → (size - 0) / 16 ≡ (e + 15) / 16
+blocks_count e size is = omega arith

@@ -1,6 +1,6 @@
 //! Counter mode of a text of any length (GCTR, SP 800-38D section 6.5).
 
-ghost use Rattle.std.specs.Prelude.{◌≡◌, ◌≤◌, ◌<◌, ◌+◌, ◌-◌, ◌/◌, ◌%◌, length};
+ghost use Rattle.std.specs.Prelude.{◌≡◌, ◌≤◌, ◌<◌, ◌+◌, ◌-◌, ◌*◌, ◌/◌, ◌%◌, length};
 ghost use Rattle.aead_ciphers_base.specs.CounterMode.{Advances, EncryptsToFront};
 ghost use Rattle.aead_ciphers_base.specs.Work.{Adds, CanAdd};
 
@@ -10,7 +10,10 @@ use aead_ciphers_base::aes::{BLOCK_LEN, Counter, EncryptCtr32, Overlapping, Work
 pub(super) const CHUNK_LEN: usize = 192 * BLOCK_LEN;
 
 /// The length of a batch, in bytes: sixteen blocks, which are whole passes of every cipher that is called here.
-const BATCH_LEN: usize = 16 * BLOCK_LEN;
+pub(super) const BATCH_LEN: usize = 16 * BLOCK_LEN;
+
+/// The length of the buffer for up to four blocks, in bytes. So few are one call of every cipher that is called here.
+pub(super) const FEW_LEN: usize = 4 * BLOCK_LEN;
 
 /// Encrypts or decrypts the bytes from `start` on to the front of `in_out`, chunk by chunk, and returns how many they are.
 pub(super) fn encrypt_within<A: EncryptCtr32>(
@@ -78,11 +81,12 @@ pub(super) fn encrypt_blocks<A: EncryptCtr32>(
 ///
 /// So a last block that is short takes no pass of its own, which is 0.71 of the instructions of opening 17 bytes. A batch has
 /// sixteen blocks, a pass or some passes of every cipher, so no cipher says how many its pass takes. With batches of eight,
-/// sealing 250 bytes on planes of 256 bits takes 0.72 of the instructions.
+/// sealing 250 bytes on planes of 256 bits takes 0.72 of the instructions. Up to four blocks have a smaller buffer, of which
+/// fewer bytes are set to zero.
 #[inline(always)]
 pub(super) fn encrypt_rest<A: EncryptCtr32>(
     aes: &A,
-    mut counter: Counter,
+    counter: Counter,
     in_out: &mut [u8],
     start: usize,
     work: &mut Work,
@@ -93,10 +97,35 @@ pub(super) fn encrypt_rest<A: EncryptCtr32>(
     ensures output { EncryptsToFront (A.cipher aes.now) counter start in_out.old in_out.new }
     ensures worked { Adds work.old work.new ((length in_out.old - start + 15) / 16) 0 }
 {
+    let whole = (in_out.len() - start).div_ceil(BLOCK_LEN) * BLOCK_LEN;
+    if whole <= FEW_LEN {
+        let mut padded = [0; FEW_LEN];
+        encrypt_padded(aes, counter, in_out, start, &mut padded[..whole], work);
+    } else {
+        let mut padded = [0; BATCH_LEN];
+        encrypt_padded(aes, counter, in_out, start, &mut padded[..whole], work);
+    }
+}
+
+/// Encrypts or decrypts the bytes from `start` on to the front of `in_out`, in `padded`, which has the blocks that they fill
+/// or begin.
+#[inline(always)]
+fn encrypt_padded<A: EncryptCtr32>(
+    aes: &A,
+    mut counter: Counter,
+    in_out: &mut [u8],
+    start: usize,
+    padded: &mut [u8],
+    work: &mut Work,
+)
+    requires within { start ≤ length in_out.old }
+    requires room { length padded.old ≡ (length in_out.old - start + 15) / 16 * 16 }
+    requires sums { CanAdd work.old ((length in_out.old - start + 15) / 16) 0 }
+    ensures output { EncryptsToFront (A.cipher aes.now) counter start in_out.old in_out.new }
+    ensures worked { Adds work.old work.new ((length in_out.old - start + 15) / 16) 0 }
+{
     let rest = in_out.len() - start;
-    let whole = rest.div_ceil(BLOCK_LEN) * BLOCK_LEN;
-    let mut padded = [0; BATCH_LEN];
     padded[..rest].copy_from_slice(&in_out[start..]);
-    encrypt_blocks(aes, &mut counter, &mut padded[..whole], 0, work);
+    encrypt_blocks(aes, &mut counter, padded, 0, work);
     in_out[..rest].copy_from_slice(&padded[..rest]);
 }

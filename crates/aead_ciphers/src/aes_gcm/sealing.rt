@@ -1,13 +1,13 @@
 //! Sealing with any cipher and hash (SP 800-38D section 7.1).
 
-ghost use Rattle.std.specs.Prelude.{◌≡◌, ◌↔◌, ◌≤◌, length, IsOk, IfOk, OnOk, OnErr};
+ghost use Rattle.std.specs.Prelude.{◌≡◌, ◌*◌, ◌↔◌, ◌≤◌, length, take, IsOk, IfOk, OnOk, OnErr};
 ghost use Rattle.aead_ciphers_base.specs.Bytes.{zero_block};
 ghost use Rattle.aead_ciphers_base.specs.CounterMode.{counter_block};
 ghost use Rattle.aead_ciphers_base.specs.Values.{aad_bytes};
 ghost use Rattle.aead_ciphers_base.specs.Work.{Adds, CanAdd};
 ghost use Rattle.aead_ciphers.specs.Gcm.{CanSeal, Fits, SealWork, gcm_encrypted, gcm_tag, sealing_blocks};
 
-use super::counter_mode::{CHUNK_LEN, encrypt_blocks, encrypt_rest, whole_len};
+use super::counter_mode::{BATCH_LEN, CHUNK_LEN, FEW_LEN, encrypt_blocks, encrypt_rest, whole_len};
 use super::hash::finish;
 use crate::gcm::{Context, UpdateBlocks};
 use aead_ciphers_base::aes::{BLOCK_LEN, Block, Counter, EncryptCtr32, Work, ZERO_BLOCK};
@@ -15,7 +15,7 @@ use aead_ciphers_base::error::Unspecified;
 use aead_ciphers_base::values::{Aad, Nonce, Tag};
 
 /// The length of the longest plaintext that is encrypted together with the mask of the tag, in bytes: fifteen blocks.
-const SHORT_LEN: usize = 15 * BLOCK_LEN;
+const SHORT_LEN: usize = BATCH_LEN - BLOCK_LEN;
 
 /// Seals as `aes_gcm::seal` does, with any cipher of 16-byte blocks (SP 800-38D section 7.1). The hash subkey of `gcm` must be
 /// the encryption of the zero block.
@@ -79,11 +79,35 @@ fn encrypt_short<A: EncryptCtr32>(
     ensures mask { result ≡ A.cipher aes.now (counter_block nonce 1) }
     ensures worked { Adds work.old work.new (sealing_blocks (length in_out.old)) 0 }
 {
-    let mut text = [0; BLOCK_LEN + SHORT_LEN];
+    let whole = (BLOCK_LEN + in_out.len()).div_ceil(BLOCK_LEN) * BLOCK_LEN;
+    if whole <= FEW_LEN {
+        let mut text = [0; FEW_LEN];
+        encrypt_after_zeros(aes, nonce, in_out, &mut text[..whole], work)
+    } else {
+        let mut text = [0; BATCH_LEN];
+        encrypt_after_zeros(aes, nonce, in_out, &mut text[..whole], work)
+    }
+}
+
+/// Does the same in `text`, which has a block of zeros and the blocks that the plaintext fills or begins.
+#[inline(always)]
+fn encrypt_after_zeros<A: EncryptCtr32>(
+    aes: &A,
+    nonce: Nonce,
+    in_out: &mut [u8],
+    text: &mut [u8],
+    work: &mut Work,
+) -> Block
+    requires room { length text.old ≡ sealing_blocks (length in_out.old) * 16 }
+    requires zeros { take 16 text.old ≡ zero_block }
+    requires sums { CanAdd work.old (sealing_blocks (length in_out.old)) 0 }
+    ensures ciphertext { in_out.new ≡ gcm_encrypted (A.cipher aes.now) nonce in_out.old }
+    ensures mask { result ≡ A.cipher aes.now (counter_block nonce 1) }
+    ensures worked { Adds work.old work.new (sealing_blocks (length in_out.old)) 0 }
+{
     let end = BLOCK_LEN + in_out.len();
     text[BLOCK_LEN..end].copy_from_slice(in_out);
-    let whole = end.div_ceil(BLOCK_LEN) * BLOCK_LEN;
-    encrypt_blocks(aes, &mut Counter::one(nonce), &mut text[..whole], 0, work);
+    encrypt_blocks(aes, &mut Counter::one(nonce), text, 0, work);
     in_out.copy_from_slice(&text[BLOCK_LEN..end]);
     let mut mask = ZERO_BLOCK;
     mask.copy_from_slice(&text[..BLOCK_LEN]);
