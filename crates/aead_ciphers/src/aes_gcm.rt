@@ -21,7 +21,7 @@ use aead_ciphers_base::error::Unspecified;
 use aead_ciphers_base::values::{Aad, Nonce, Tag};
 pub use expanded::ExpandedKey;
 pub use gcm_key::GcmKey;
-pub use opening::{open_to_with, open_with};
+pub use opening::{open_fitting_with, open_to_with, open_with};
 pub use sealing::seal_with;
 use std::ops::RangeFrom;
 

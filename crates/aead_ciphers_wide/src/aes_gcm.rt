@@ -16,7 +16,7 @@ mod pieces;
 
 use crate::aes::Width;
 use crate::{aes, gcm};
-use aead_ciphers::aes_gcm::{GcmKey, open_to_with, open_with, seal_with};
+use aead_ciphers::aes_gcm::{GcmKey, open_fitting_with, open_to_with, open_with, seal_with};
 use aead_ciphers::gcm::fits;
 use aead_ciphers_base::aes::{EncryptBlock, KeyBytes, Work, ZERO_BLOCK};
 use aead_ciphers_base::bb;
@@ -119,14 +119,11 @@ impl ExpandedKey {
         match before_tag.len().checked_sub(ciphertext_and_tag.start) {
             Some(len) if fits(aad.as_ref().len(), len) => {
                 let tag = Tag::from(*tag);
-                self.open(
-                    nonce,
-                    aad,
-                    tag,
-                    before_tag,
-                    ciphertext_and_tag,
-                    &mut Work::new(),
-                )
+                let aes = self.aes();
+                let gcm = self.gcm();
+                let start = ciphertext_and_tag.start;
+                let mut work = Work::new();
+                open_fitting_with(&aes, &gcm, nonce, aad, tag, before_tag, start, &mut work)
             }
             _ => Err(Unspecified),
         }

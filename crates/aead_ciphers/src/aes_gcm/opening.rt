@@ -1,6 +1,6 @@
 //! Opening with any cipher and hash (SP 800-38D section 7.2).
 
-ghost use Rattle.std.specs.Prelude.{◌≡◌, ◌-◌, ◌↔◌, length, is_ok, IsOk, IfOk, OnOk, OnErr};
+ghost use Rattle.std.specs.Prelude.{◌≡◌, ◌-◌, ◌≤◌, ◌↔◌, length, is_ok, IsOk, IfOk, OnOk, OnErr};
 ghost use Rattle.aead_ciphers_base.specs.Bytes.{zero_block};
 ghost use Rattle.aead_ciphers_base.specs.CounterMode.{IsCounter};
 ghost use Rattle.aead_ciphers_base.specs.Values.{aad_bytes};
@@ -9,7 +9,7 @@ ghost use Rattle.aead_ciphers.specs.Gcm.{CanOpen, CanSeal, Fits, OpenWork, Opene
 
 use super::counter_mode::encrypt_within;
 use super::hash::finish;
-use crate::gcm::{Context, UpdateBlocks};
+use crate::gcm::{Context, UpdateBlocks, fits};
 use aead_ciphers_base::aes::{Counter, EncryptCtr32, Work};
 use aead_ciphers_base::bb;
 use aead_ciphers_base::error::Unspecified;
@@ -44,6 +44,34 @@ pub fn open_with<A: EncryptCtr32, G: UpdateBlocks>(
     if start > in_out.len() {
         return Err(Unspecified);
     }
+    if !fits(aad.as_ref().len(), in_out.len() - start) {
+        return Err(Unspecified);
+    }
+    open_fitting_with(aes, gcm, nonce, aad, received_tag, in_out, start, work)
+}
+
+/// Opens as `open_with` does, the ciphertext from `start` on, if that is in range and the lengths are within the limits, which
+/// the caller has checked. Fails if the tags differ.
+#[inline(always)]
+pub fn open_fitting_with<A: EncryptCtr32, G: UpdateBlocks>(
+    aes: &A,
+    gcm: &G,
+    nonce: Nonce,
+    aad: Aad<'_>,
+    received_tag: Tag,
+    in_out: &mut [u8],
+    start: usize,
+    work: &mut Work,
+) -> Result<usize, Unspecified>
+    requires within { start ≤ length in_out.old }
+    requires fits { Fits (length (aad_bytes aad)) (length in_out.old - start) }
+    requires sums { CanOpen work.old (length (aad_bytes aad)) start (length in_out.old) }
+    requires subkey { G.hash_subkey gcm.now ≡ A.cipher aes.now zero_block }
+    ensures opened { Opened (A.cipher aes.now) nonce (aad_bytes aad.entry) received_tag start
+        in_out.old (is_ok result) in_out.new }
+    ensures count { IfOk result (λ n. n ≡ length in_out.old - start) }
+    ensures worked { OpenWork (length (aad_bytes aad.entry)) start (length in_out.old) result work.old work.new }
+{
     let counter = authenticate(aes, gcm, nonce, aad, received_tag, &in_out[start..], work)?;
     Ok(encrypt_within(aes, counter, in_out, start, work))
 }
@@ -70,14 +98,17 @@ pub fn open_to_with<A: EncryptCtr32, G: UpdateBlocks>(
     ensures refused { OnErr result (out.new ≡ out.old) }
     ensures worked { OpenWork (length (aad_bytes aad.entry)) 0 (length ciphertext.now) result work.old work.new }
 {
+    if !fits(aad.as_ref().len(), ciphertext.len()) {
+        return Err(Unspecified);
+    }
     let counter = authenticate(aes, gcm, nonce, aad, received_tag, ciphertext, work)?;
     out.copy_from_slice(ciphertext);
     encrypt_within(aes, counter, out, 0, work);
     Ok(())
 }
 
-/// Compares the tag of `ciphertext` with `received_tag`, and returns the counter block of its first block. Fails if the
-/// lengths exceed the limits of `aes_gcm::seal`, or if the tags differ.
+/// Compares the tag of `ciphertext` with `received_tag`, and returns the counter block of its first block. Fails if the tags
+/// differ.
 #[inline(never)]
 fn authenticate<A: EncryptCtr32, G: UpdateBlocks>(
     aes: &A,
@@ -88,18 +119,16 @@ fn authenticate<A: EncryptCtr32, G: UpdateBlocks>(
     ciphertext: &[u8],
     work: &mut Work,
 ) -> Result<Counter, Unspecified>
+    requires fits { Fits (length (aad_bytes aad)) (length ciphertext.now) }
     requires sums { CanSeal work.old (length (aad_bytes aad)) (length ciphertext.now) }
     requires subkey { G.hash_subkey gcm.now ≡ A.cipher aes.now zero_block }
-    ensures accepted { IsOk result ↔ (Fits (length (aad_bytes aad.entry)) (length ciphertext.now)
-        × (received_tag ≡ gcm_tag (A.cipher aes.now) nonce (aad_bytes aad.entry) ciphertext.now)) }
+    ensures accepted { IsOk result
+        ↔ (received_tag ≡ gcm_tag (A.cipher aes.now) nonce (aad_bytes aad.entry) ciphertext.now) }
     ensures counter { IfOk result (λ counter. IsCounter counter nonce 2) }
-    ensures worked { Fits (length (aad_bytes aad.entry)) (length ciphertext.now)
-        → Adds work.old work.new 1
+    ensures worked { Adds work.old work.new 1
         (sealing_products (length (aad_bytes aad.entry)) (length ciphertext.now)) }
-    ensures too_long { ¬ Fits (length (aad_bytes aad.entry)) (length ciphertext.now)
-        → Adds work.old work.new 0 0 }
 {
-    let mut auth = Context::new(gcm, aad, ciphertext.len(), work)?;
+    let mut auth = Context::of_fitting(gcm, aad, ciphertext.len(), work);
     let mut counter = Counter::one(nonce);
     let tag_iv = counter.increment();
     auth.absorb(ciphertext, work);

@@ -9,7 +9,7 @@ ghost use Rattle.aead_ciphers.specs.Gcm.{CanSeal, Fits, SealWork, gcm_encrypted,
 
 use super::counter_mode::{BATCH_LEN, CHUNK_LEN, FEW_LEN, encrypt_blocks, encrypt_rest, whole_len};
 use super::hash::finish;
-use crate::gcm::{Context, UpdateBlocks};
+use crate::gcm::{Context, UpdateBlocks, fits};
 use aead_ciphers_base::aes::{BLOCK_LEN, Block, Counter, EncryptCtr32, Work, ZERO_BLOCK};
 use aead_ciphers_base::error::Unspecified;
 use aead_ciphers_base::values::{Aad, Nonce, Tag};
@@ -37,7 +37,10 @@ pub fn seal_with<A: EncryptCtr32, G: UpdateBlocks>(
     ensures refused { OnErr result (in_out.new ≡ in_out.old) }
     ensures worked { SealWork (length (aad_bytes aad.entry)) (length in_out.old) result work.old work.new }
 {
-    let mut auth = Context::new(gcm, aad, in_out.len(), work)?;
+    if !fits(aad.as_ref().len(), in_out.len()) {
+        return Err(Unspecified);
+    }
+    let mut auth = Context::of_fitting(gcm, aad, in_out.len(), work);
     if !in_out.is_empty() && in_out.len() <= SHORT_LEN {
         let mask = encrypt_short(aes, nonce, in_out, work);
         auth.absorb(in_out, work);

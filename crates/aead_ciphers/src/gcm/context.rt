@@ -103,10 +103,23 @@ impl<'key, K: UpdateBlocks> Context<'key, K> {
             (Adds work.old work.new 0 ((length (aad_bytes aad.entry) + 15) / 16)) }
         ensures idle { OnErr result (work.new ≡ work.old) }
     {
-        let aad = aad.as_ref();
-        if !fits(aad.len(), in_out_len) {
+        if !fits(aad.as_ref().len(), in_out_len) {
             return Err(Unspecified);
         }
+        Ok(Context::of_fitting(key, aad, in_out_len, work))
+    }
+
+    /// Starts a hash as `new` does, of lengths that are within the limits.
+    pub(crate) fn of_fitting(key: &'key K, aad: Aad<'_>, in_out_len: usize, work: &mut Work) -> Self
+        requires fits { Fits (length (aad_bytes aad)) in_out_len }
+        requires sums { CanAdd work.old 0 ((length (aad_bytes aad) + 15) / 16) }
+        ensures hash_subkey { result.hash_subkey ≡ K.hash_subkey key.now }
+        ensures aad_len { result.aad_len ≡ length (aad_bytes aad.entry) }
+        ensures in_out_len { result.in_out_len ≡ in_out_len }
+        ensures hashed { IsHashOf result.hash_subkey (padded_blocks (aad_bytes aad.entry)) result.xi }
+        ensures worked { Adds work.old work.new 0 ((length (aad_bytes aad.entry) + 15) / 16) }
+    {
+        let aad = aad.as_ref();
         let mut context = Context {
             xi: Xi::zero(),
             key,
@@ -114,7 +127,7 @@ impl<'key, K: UpdateBlocks> Context<'key, K> {
             in_out_len,
         };
         context.absorb(aad, work);
-        Ok(context)
+        context
     }
 
     /// Updates the hash with the blocks of `input` in order, by one field product each.

@@ -1,4 +1,4 @@
-use Rattle.std.proofs.Common.{◌+◌, length, ap, ◌∙◌, subst, sym, refl, add-zero, zero-le, le_trans}
+use Rattle.std.proofs.Common.{◌+◌, length, ap, ◌∙◌, subst, sym, refl, rules, add-zero, zero-le, le_trans}
 use Rattle.aead_ciphers_base.specs
 use specs.CounterMode.{counter_mode}
 use specs.Values.{aad_bytes}
@@ -35,7 +35,7 @@ loop-done-preserved g c =
     let long = chunk_length d n _ xs room inv.walk.size in
     record {
       worked =
-          chunk_counted c.new.new.work c.loop-done.work c.encrypt_blocks.new.work c.absorb-in-loop-done.new.work d n _ _ inv.walk.aligned whole.0 long size
+          chunk_counted c.of_fitting-auth.new.work c.loop-done.work c.encrypt_blocks.new.work c.absorb-in-loop-done.new.work d n _ _ inv.walk.aligned whole.0 long size
           inv.worked c.encrypt_blocks.ensures.worked c.absorb-in-loop-done.ensures.worked;
       within = whole.1;
       walk = walk;
@@ -52,8 +52,8 @@ encrypt_blocks-requires-clause-sums g c =
     let inv = c.loop-done.invariant in
     let whole = chunk_whole c.whole_len-whole.result d n c.min-count.ensures inv.within c.whole_len-whole.ensures.aligned inv.walk.aligned in
     let room = le_trans whole.1 c.whole_len-whole.ensures.within in
-    left_chunk c.args.work.now c.new.new.work (length (aad_bytes c.args.aad)) (length was) (c.requires.sums (c.in_ok-auth.ensures.accepted.0 refl))
-    c.in_ok-auth.ensures.worked c.loop-done.work d n _ inv.walk.aligned room (chunk_length d n _ c.loop-done.in_out room inv.walk.size) inv.worked
+    left_chunk c.args.work.now c.of_fitting-auth.new.work (length (aad_bytes c.args.aad)) (length was) (c.requires.sums (search rules))
+    c.of_fitting-auth.ensures.worked c.loop-done.work d n _ inv.walk.aligned room (chunk_length d n _ c.loop-done.in_out room inv.walk.size) inv.worked
 
 pub absorb-requires-in-loop-done : goal.absorb-requires-in-loop-done
 absorb-requires-in-loop-done g c =
@@ -63,8 +63,8 @@ absorb-requires-in-loop-done g c =
     let inv = c.loop-done.invariant in
     let whole = chunk_whole c.whole_len-whole.result d n c.min-count.ensures inv.within c.whole_len-whole.ensures.aligned inv.walk.aligned in
     let room = le_trans whole.1 c.whole_len-whole.ensures.within in
-    left_chunk_hash c.args.work.now c.new.new.work (length (aad_bytes c.args.aad)) (length was) (c.requires.sums (c.in_ok-auth.ensures.accepted.0 refl))
-    c.in_ok-auth.ensures.worked c.loop-done.work c.encrypt_blocks.new.work d n _ _ inv.walk.aligned whole.0 room
+    left_chunk_hash c.args.work.now c.of_fitting-auth.new.work (length (aad_bytes c.args.aad)) (length was) (c.requires.sums (search rules))
+    c.of_fitting-auth.ensures.worked c.loop-done.work c.encrypt_blocks.new.work d n _ _ inv.walk.aligned whole.0 room
     (chunk_length d n _ c.loop-done.in_out room inv.walk.size) c.encrypt_blocks.auto.in_out inv.worked c.encrypt_blocks.ensures.worked
 
 pub encrypt_rest-requires-clause-sums : goal.encrypt_rest-requires-clause-sums
@@ -72,8 +72,8 @@ encrypt_rest-requires-clause-sums g c =
     let was = c.args.in_out.now in
     let d = c.whole_len-whole.result in
     let inv = c.loop-done.invariant in
-    left_rest c.args.work.now c.new.new.work (length (aad_bytes c.args.aad)) (length was) (c.requires.sums (c.in_ok-auth.ensures.accepted.0 refl))
-    c.in_ok-auth.ensures.worked c.loop-done.work c.loop-done.done d _ inv.walk.aligned inv.within c.loop-done-test.false c.whole_len-whole.ensures.within
+    left_rest c.args.work.now c.of_fitting-auth.new.work (length (aad_bytes c.args.aad)) (length was) (c.requires.sums (search rules))
+    c.of_fitting-auth.ensures.worked c.loop-done.work c.loop-done.done d _ inv.walk.aligned inv.within c.loop-done-test.false c.whole_len-whole.ensures.within
     (rest_length d _ c.loop-done.in_out inv.walk.size) inv.worked
 
 pub absorb-requires-then-whole-in_out : goal.absorb-requires-then-whole-in_out
@@ -81,8 +81,8 @@ absorb-requires-then-whole-in_out g c =
     let was = c.args.in_out.now in
     let d = c.whole_len-whole.result in
     let inv = c.loop-done.invariant in
-    left_rest_hash c.args.work.now c.new.new.work (length (aad_bytes c.args.aad)) (length was) (c.requires.sums (c.in_ok-auth.ensures.accepted.0 refl))
-    c.in_ok-auth.ensures.worked c.loop-done.work c.encrypt_rest.new.work c.loop-done.done d _ _ inv.walk.aligned inv.within c.loop-done-test.false
+    left_rest_hash c.args.work.now c.of_fitting-auth.new.work (length (aad_bytes c.args.aad)) (length was) (c.requires.sums (search rules))
+    c.of_fitting-auth.ensures.worked c.loop-done.work c.encrypt_rest.new.work c.loop-done.done d _ _ inv.walk.aligned inv.within c.loop-done-test.false
     c.whole_len-whole.ensures.within (rest_length d _ c.loop-done.in_out inv.walk.size) c.encrypt_rest.auto.in_out inv.worked c.encrypt_rest.ensures.worked
 
 pub returns-clause-ciphertext : goal.returns-clause-ciphertext
@@ -113,8 +113,8 @@ returns-clause-tag g c =
     let out = counter_mode cipher nonce 2 was in
     let long = length-counter_mode cipher nonce 2 was in
     let is = returns-clause-ciphertext g c in
-    let started = c.in_ok-auth.auth in
-    let made = c.in_ok-auth.ensures in
+    let started = c.of_fitting-auth.result in
+    let made = c.of_fitting-auth.ensures in
     let d = c.whole_len-whole.result in
     let fits = c.whole_len-whole.ensures.within in
     let xs = c.loop-done.in_out in
@@ -139,14 +139,14 @@ returns-clause-tag g c =
 -- a short message
 pub absorb-requires : goal.absorb-requires
 absorb-requires g c =
-    left_short c.args.work.now c.new.new.work (length (aad_bytes c.args.aad)) (length c.args.in_out.now)
-    (c.requires.sums (c.in_ok-auth.ensures.accepted.0 refl)) c.in_ok-auth.ensures.worked c.encrypt_short-mask.new.work _ c.encrypt_short-mask.ensures.worked
+    left_short c.args.work.now c.of_fitting-auth.new.work (length (aad_bytes c.args.aad)) (length c.args.in_out.now)
+    (c.requires.sums (search rules)) c.of_fitting-auth.ensures.worked c.encrypt_short-mask.new.work _ c.encrypt_short-mask.ensures.worked
     c.encrypt_short-mask.auto.in_out
 
 pub finish-requires : goal.finish-requires
 finish-requires g c =
-    left_short_end c.args.work.now c.new.new.work (length (aad_bytes c.args.aad)) (length c.args.in_out.now)
-    (c.requires.sums (c.in_ok-auth.ensures.accepted.0 refl)) c.in_ok-auth.ensures.worked c.encrypt_short-mask.new.work c.absorb.new.work _
+    left_short_end c.args.work.now c.of_fitting-auth.new.work (length (aad_bytes c.args.aad)) (length c.args.in_out.now)
+    (c.requires.sums (search rules)) c.of_fitting-auth.ensures.worked c.encrypt_short-mask.new.work c.absorb.new.work _
     c.encrypt_short-mask.ensures.worked c.absorb.ensures.worked c.encrypt_short-mask.auto.in_out
 
 pub returns-then-in_out-le-SHORT_LEN-clause-tag : goal.returns-then-in_out-le-SHORT_LEN-clause-tag
@@ -154,7 +154,7 @@ returns-then-in_out-le-SHORT_LEN-clause-tag g c =
     let nonce = c.args.nonce in
     let cipher = g.A.EncryptBlock.cipher c.args.aes.now in
     let short = c.encrypt_short-mask.ensures in
-    let made = c.in_ok-auth.ensures in
+    let made = c.of_fitting-auth.ensures in
     tag_found cipher nonce (aad_bytes c.args.aad) c.encrypt_short-mask.new.in_out (made.hash_subkey ∙ c.requires.subkey) made.aad_len
     (made.in_out_len ∙ sym (ap length short.ciphertext ∙ length-counter_mode cipher nonce 2 c.args.in_out.now))
     short.mask made.hashed c.absorb.ensures.hashed c.finish.ensures.tag

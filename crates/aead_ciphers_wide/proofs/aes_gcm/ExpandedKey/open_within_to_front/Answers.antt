@@ -47,6 +47,11 @@ module _ (old before tag : List ℕ) (is_before : before ≡ take (length old - 
   counts start (Ok n) is = omega (arith, is)
   counts start (Err e) is = tt
 
+  kept : {E : Type 0} (cipher : List ℕ → List ℕ) (nonce aad received : List ℕ) (start : ℕ) (new : List ℕ) (result : Result ℕ E)
+      → Opened cipher nonce aad received start before (is_ok result) new → OnErr result (new ≡ before)
+  kept cipher nonce aad received start new (Ok n) opened = tt
+  kept cipher nonce aad received start new (Err e) opened = opened.buffer
+
   unchanged : {E : Type 0} (new : List ℕ) (result : Result ℕ E) → OnErr result (new ≡ before) → OnErr result (new ++ tag ≡ old)
   unchanged new (Ok n) is = tt
   unchanged new (Err e) is = ap (λ x. x ++ tag) is ∙ whole
@@ -82,17 +87,23 @@ pub returns-in-Some-clause-count : goal.returns-in-Some-clause-count
 returns-in-Some-clause-count c =
     let parts = rw c.in_ok-in_out.ensures.ok_part at c.split_last_chunk_mut.ensures.cases in
     counts c.args.in_out.now c.in_ok-in_out.before_tag.now c.in_ok-in_out.tag.now parts.0 parts.1 parts.2
-    c.args.ciphertext_and_tag.start c.«open».result c.«open».ensures.count
+    c.args.ciphertext_and_tag.start c.open_fitting_with.result c.open_fitting_with.ensures.count
 
 pub returns-in-Some-clause-refused : goal.returns-in-Some-clause-refused
 returns-in-Some-clause-refused c =
     let parts = rw c.in_ok-in_out.ensures.ok_part at c.split_last_chunk_mut.ensures.cases in
-    unchanged c.args.in_out.now c.in_ok-in_out.before_tag.now c.in_ok-in_out.tag.now parts.0 parts.1 parts.2
-    c.«open».new.in_out c.«open».result c.«open».ensures.refused
+    let before = c.in_ok-in_out.before_tag.now in
+    let tag = c.in_ok-in_out.tag.now in
+    unchanged c.args.in_out.now before tag parts.0 parts.1 parts.2 c.open_fitting_with.new.in_out c.open_fitting_with.result
+    (kept c.args.in_out.now before tag parts.0 parts.1 parts.2 _ _ _ _ _ _ _ c.open_fitting_with.ensures.opened)
 
 pub returns-in-Some-clause-opened : goal.returns-in-Some-clause-opened
 returns-in-Some-clause-opened c =
     let parts = rw c.in_ok-in_out.ensures.ok_part at c.split_last_chunk_mut.ensures.cases in
-    opens c.args.in_out.now c.in_ok-in_out.before_tag.now c.in_ok-in_out.tag.now parts.0 parts.1 parts.2
-    (aes (bytes_of c.args.self.now)) c.args.nonce (aad_bytes c.args.aad) _ c.args.ciphertext_and_tag.start _ c.«open».new.in_out
-    c.from-tag.ensures c.«open».ensures.opened
+    let before = c.in_ok-in_out.before_tag.now in
+    let start = c.args.ciphertext_and_tag.start in
+    opens c.args.in_out.now before c.in_ok-in_out.tag.now parts.0 parts.1 parts.2
+    (aes (bytes_of c.args.self.now)) c.args.nonce (aad_bytes c.args.aad) _ start _ c.open_fitting_with.new.in_out
+    c.from-tag.ensures
+    (subst (λ key. Opened (aes key) c.args.nonce (aad_bytes c.args.aad) c.from-tag.result start before
+    (is_ok c.open_fitting_with.result) c.open_fitting_with.new.in_out) c.aes-aes.ensures c.open_fitting_with.ensures.opened)
