@@ -10,12 +10,12 @@ use Rattle.std.proofs.lemmas.List.{get_or_append_left, get_or-append_right, get_
 use Rattle.std.proofs.lemmas.List.FromFn.{fill_by_all}
 use Rattle.aead_ciphers_base.specs.Bytes.{◌⊕◌, zero_block, each_below}
 use Rattle.aead_ciphers_base.proofs.EachLemmas.{each-same, get_or-each, length-each}
-use Rattle.aead_ciphers_base.proofs.XorLemmas.{xor_comm, xor_zeros, xor-append, xor_by_index}
+use Rattle.aead_ciphers_base.proofs.XorLemmas.{xor_assoc, xor_comm, xor_zeros, xor-append, xor_by_index}
 use Rattle.aead_ciphers.specs.Ghash.{IsBlock, ◌•◌, block_of}
 use Rattle.aead_ciphers_wide.specs.Products.{AreProducts, chosen_sum, column, first_byte, stepped, subkey, u128_times}
 use Rattle.aead_ciphers.specs.Multiples.{monomial_block}
 use Rattle.aead_ciphers.proofs.GhashBlocks.{to_be_bytes-xor, IsBlock-number, IsBlock-product}
-use Rattle.aead_ciphers.proofs.GhashLaws.{Sized, Sized-product, Sized-xor, xor_zero, product_zero, product_assoc, product_comm, product_xor_left, product_unit, IsBlock-zero}
+use Rattle.aead_ciphers.proofs.GhashLaws.{Sized, Sized-product, Sized-xor, xor_zero, product_zero, product_assoc, product_comm, product_xor_left, product_xor_right, product_unit, IsBlock-zero}
 use Rattle.aead_ciphers_wide.proofs.WideBlocks.{by_sixteen}
 use Rattle.aead_ciphers_wide.proofs.ByteLadder.{step, ladder, ladder-same, ladder-xor, ladder-times, ladder-swap, ladder-append, ladder-zero, Sized-ladder, Sized-step, block_ladder}
 
@@ -262,6 +262,30 @@ module _ (first second : List ℕ) (size : length first ≡ 16) (size' : length 
       ∙ xor_comm zero_block (step • ladder 31 f) ∙ xor_zero (step • ladder 31 f) s
       ∙ ap (λ y. step • y) (sym (ladder-last 31 f (λ i. refl) none))
 
+-- moved by two places
+abbrev pub front_of_two : List ℕ → List ℕ
+front_of_two first = 0 ∷ 0 ∷ each_below 14 (λ i. slice_index first i)
+
+abbrev pub back_of_two : List ℕ → List ℕ → List ℕ
+back_of_two first second = slice_index first 14 ∷ slice_index first 15 ∷ each_below 14 (λ i. slice_index second i)
+
+module _ (first second : List ℕ) (size : length first ≡ 16) (size' : length second ≡ 16) where
+  pub moved_twice_value : slice_index second 14 ≡ 0 → slice_index second 15 ≡ 0
+      → pair_value (front_of_two first) (back_of_two first second) ≡ step • (step • pair_value first second)
+  moved_twice_value next last =
+      let front = 0 ∷ each_below 15 (λ i. slice_index first i) in
+      let back = slice_index first 15 ∷ each_below 15 (λ i. slice_index second i) in
+      moved_value front back refl refl next ∙ ap (λ y. step • y) (moved_value first second size size' last)
+
+  pub moved_twice_zeros : (k : ℕ) → (k ≡ 0 → (i : ℕ) → slice_index first i ≡ 0)
+      → ((i : ℕ) → 2 * k ≤ i + 2 → slice_index second i ≡ 0) → (i : ℕ) → 2 * (k + 1) ≤ i + 2 → slice_index (back_of_two first second) i ≡ 0
+  moved_twice_zeros k empty zeros zero h = empty (omega arith) 14
+  moved_twice_zeros k empty zeros (suc zero) h = empty (omega arith) 15
+  moved_twice_zeros k empty zeros (suc (suc i)) h = elim (cases_lt i 14) [
+    | inl less ↦ get_or-each 14 (λ i. slice_index second i) i 0 less ∙ zeros i (omega arith)
+    | inr past ↦ get_or_past (each_below 14 (λ i. slice_index second i)) i 0 (omega (arith, length-each 14 (λ i. slice_index second i)))
+  ]
+
 pub zero_at : (n i : ℕ) → slice_index (replicate n 0) i ≡ 0
 zero_at zero i = refl
 zero_at (suc n) zero = refl
@@ -288,24 +312,29 @@ padded_value bytes size =
     ∙ ap (λ y. ladder 16 g ⊕ y) (stepped_zero 16)
     ∙ xor_zero (ladder 16 g) (Sized-ladder 16 g (λ i. refl))
 
+-- a sum of 32 bytes
+pair_value-xor : (first second front back : List ℕ) → length first ≡ 16 → length second ≡ 16 → length front ≡ 16 → length back ≡ 16
+    → pair_value (first ⊕ front) (second ⊕ back) ≡ pair_value first second ⊕ pair_value front back
+pair_value-xor first second front back s1 s2 s3 s4 =
+    let xs = first ++ second in
+    let ys = front ++ back in
+    let lx : length xs ≡ 32 = omega (arith, length-append first second) in
+    let ly : length ys ≡ 32 = omega (arith, length-append front back) in
+    let f = λ (i : ℕ). first_byte (slice_index xs i) in
+    let g = λ (i : ℕ). first_byte (slice_index ys i) in
+    ladder-same 32 (λ i. first_byte (slice_index ((first ⊕ front) ++ (second ⊕ back)) i)) (λ i. f i ⊕ g i)
+    (λ i lt.
+    ap first_byte (ap (λ b. slice_index b i) (sym (xor-append first second front back (s1 ∙ sym s3)) ∙ xor_by_index xs ys 32 lx ly)
+    ∙ get_or-each 32 (λ i. bit_xor (slice_index xs i) (slice_index ys i)) i 0 lt))
+    ∙ ladder-xor 32 f g (λ i. refl) (λ i. refl)
+
 -- bytes are added to the first 16
 pub added_value : (front back bytes : List ℕ) → length front ≡ 16 → length back ≡ 16 → length bytes ≡ 16
     → pair_value (front ⊕ bytes) back ≡ pair_value front back ⊕ ladder 16 (λ i. first_byte (slice_index bytes i))
 added_value front back bytes size size' size'' =
-    let xs = front ++ back in
-    let ys = bytes ++ replicate 16 0 in
-    let lx : length xs ≡ 32 = omega (arith, length-append front back) in
-    let ly : length ys ≡ 32 = omega (arith, length-append bytes (replicate 16 0), length-replicate {A = ℕ} 16 0) in
-    let whole : (front ⊕ bytes) ++ back ≡ xs ⊕ ys =
-    ap (λ b. (front ⊕ bytes) ++ b) (sym (xor_zeros back 16 size')) ∙ sym (xor-append front back bytes (replicate 16 0) (size ∙ sym size'')) in
-    let f = λ (i : ℕ). first_byte (slice_index xs i) in
-    let g = λ (i : ℕ). first_byte (slice_index ys i) in
-    ladder-same 32 (λ i. first_byte (slice_index ((front ⊕ bytes) ++ back) i)) (λ i. f i ⊕ g i)
-    (λ i lt.
-    ap first_byte (ap (λ b. slice_index b i) (whole ∙ xor_by_index xs ys 32 lx ly)
-    ∙ get_or-each 32 (λ i. bit_xor (slice_index xs i) (slice_index ys i)) i 0 lt))
-    ∙ ladder-xor 32 f g (λ i. refl) (λ i. refl)
-    ∙ ap (λ y. ladder 32 f ⊕ y) (padded_value bytes size'')
+    ap (pair_value (front ⊕ bytes)) (sym (xor_zeros back 16 size'))
+    ∙ pair_value-xor front back bytes (replicate 16 0) size size' size'' (length-replicate {A = ℕ} 16 0)
+    ∙ ap (λ y. pair_value front back ⊕ y) (padded_value bytes size'')
 
 -- one turn of the loop, which takes in the row at 15 - k
 pub turn : (first second bytes : List ℕ) (W : ℕ → List ℕ) (k : ℕ) → length first ≡ 16 → length second ≡ 16 → length bytes ≡ 16 → k < 16
@@ -325,6 +354,76 @@ turn first second bytes W k size size' size'' within last before here =
     ∙ ap₂ (λ x y. x ⊕ step • y) (ap W row)
     (ladder-same k (λ r. W (16 - k + r)) (λ r. W (16 - (k + 1) + suc r)) (λ i lt. (let place : 16 - k + i ≡ 16 - (k + 1) + suc i = omega arith in ap W place)))
     ∙ ap (λ n. ladder n (λ r. W (16 - (k + 1) + r))) (sym e)
+
+-- the value of the even rows' sum and u^8 times that of the odd rows' one
+abbrev pub rows_value : List ℕ → List ℕ → List ℕ → List ℕ → List ℕ
+rows_value even even_over odd odd_over = pair_value even even_over ⊕ step • pair_value odd odd_over
+
+Sized-pair : (first second : List ℕ) → Sized (pair_value first second)
+Sized-pair first second = Sized-ladder 32 (λ i. first_byte (slice_index (first ++ second) i)) (λ i. refl)
+
+-- (u^16 a + c) + u^8 (u^16 b + d) = c + u^8 (d + u^8 (a + u^8 b))
+two_steps : (a b c d : List ℕ) → Sized a → Sized b → Sized d
+    → (step • (step • a) ⊕ c) ⊕ step • (step • (step • b) ⊕ d) ≡ c ⊕ step • (d ⊕ step • (a ⊕ step • b))
+two_steps a b c d sa sb sd =
+    let s = λ (y : List ℕ). Sized-product step y in
+    let far = step • (step • b) in
+    ap₂ (λ x y. x ⊕ step • y) (xor_comm (step • (step • a)) c) (xor_comm far d)
+    ∙ xor_assoc c (step • (step • a)) (step • (d ⊕ far))
+    ∙ ap (λ y. c ⊕ y)
+    (sym (product_xor_right step (step • a) (d ⊕ far) Sized-step (s a) (Sized-xor d far sd (s (step • b))))
+    ∙ ap (λ y. step • y)
+    (sym (xor_assoc (step • a) d far) ∙ ap (λ y. y ⊕ far) (xor_comm (step • a) d) ∙ xor_assoc d (step • a) far
+    ∙ ap (λ y. d ⊕ y) (sym (product_xor_right step a (step • b) Sized-step sa (s b)))))
+
+-- one turn of the loop of two sums, which takes in the rows at 14 - 2 k and 14 - 2 k + 1
+pub turn_of_two : (even even_over odd odd_over bytes bytes' : List ℕ) (W : ℕ → List ℕ) (k : ℕ)
+    → length even ≡ 16 → length even_over ≡ 16 → length odd ≡ 16 → length odd_over ≡ 16 → length bytes ≡ 16 → length bytes' ≡ 16 → k < 8
+    → ((i : ℕ) → 2 * k ≤ i + 2 → slice_index even_over i ≡ 0) → ((i : ℕ) → 2 * k ≤ i + 2 → slice_index odd_over i ≡ 0)
+    → rows_value even even_over odd odd_over ≡ ladder (2 * k) (λ r. W (16 - 2 * k + r))
+    → ladder 16 (λ i. first_byte (slice_index bytes i)) ≡ W (14 - 2 * k)
+    → ladder 16 (λ i. first_byte (slice_index bytes' i)) ≡ W (14 - 2 * k + 1)
+    → rows_value (front_of_two even ⊕ bytes) (back_of_two even even_over) (front_of_two odd ⊕ bytes') (back_of_two odd odd_over)
+    ≡ ladder (2 * (k + 1)) (λ r. W (16 - 2 * (k + 1) + r))
+unfolding ladder
+turn_of_two even even_over odd odd_over bytes bytes' W k s1 s2 s3 s4 size size' within zeros zeros' before here here' =
+    let c = ladder 16 (λ i. first_byte (slice_index bytes i)) in
+    let d = ladder 16 (λ i. first_byte (slice_index bytes' i)) in
+    let sd : Sized d = Sized-ladder 16 (λ i. first_byte (slice_index bytes' i)) (λ i. refl) in
+    let e : 2 * (k + 1) ≡ suc (suc (2 * k)) = omega arith in
+    let row : 14 - 2 * k ≡ 16 - 2 * (k + 1) + 0 = omega arith in
+    let row' : 14 - 2 * k + 1 ≡ 16 - 2 * (k + 1) + 1 = omega arith in
+    ap₂ (λ x y. x ⊕ step • y)
+    (added_value (front_of_two even) (back_of_two even even_over) bytes refl refl size
+    ∙ ap (λ x. x ⊕ c) (moved_twice_value even even_over s1 s2 (zeros 14 (omega arith)) (zeros 15 (omega arith))))
+    (added_value (front_of_two odd) (back_of_two odd odd_over) bytes' refl refl size'
+    ∙ ap (λ x. x ⊕ d) (moved_twice_value odd odd_over s3 s4 (zeros' 14 (omega arith)) (zeros' 15 (omega arith))))
+    ∙ two_steps (pair_value even even_over) (pair_value odd odd_over) c d (Sized-pair even even_over) (Sized-pair odd odd_over) sd
+    ∙ ap₂ (λ x y. x ⊕ step • y) (here ∙ ap W row)
+    (ap₂ (λ x y. x ⊕ step • y) (here' ∙ ap W row')
+    (before
+    ∙ ladder-same (2 * k) (λ r. W (16 - 2 * k + r)) (λ r. W (16 - 2 * (k + 1) + suc (suc r)))
+    (λ i lt. (let place : 16 - 2 * k + i ≡ 16 - 2 * (k + 1) + suc (suc i) = omega arith in ap W place))))
+    ∙ ap (λ n. ladder n (λ r. W (16 - 2 * (k + 1) + r))) (sym e)
+
+-- the two sums joined
+pub joined_value : (even even_over odd odd_over : List ℕ) → length even ≡ 16 → length even_over ≡ 16 → length odd ≡ 16 → length odd_over ≡ 16
+    → slice_index odd_over 15 ≡ 0
+    → pair_value (even ⊕ (0 ∷ each_below 15 (λ i. slice_index odd i)))
+    (even_over ⊕ (slice_index odd 15 ∷ each_below 15 (λ i. slice_index odd_over i)))
+    ≡ rows_value even even_over odd odd_over
+joined_value even even_over odd odd_over s1 s2 s3 s4 last =
+    let front = 0 ∷ each_below 15 (λ i. slice_index odd i) in
+    let back = slice_index odd 15 ∷ each_below 15 (λ i. slice_index odd_over i) in
+    pair_value-xor even even_over front back s1 s2 refl refl
+    ∙ ap (λ y. pair_value even even_over ⊕ y) (moved_value odd odd_over s3 s4 last)
+
+pub joined_last : (even_over odd odd_over over : List ℕ) → length even_over ≡ 16
+    → over ≡ even_over ⊕ (slice_index odd 15 ∷ each_below 15 (λ i. slice_index odd_over i))
+    → slice_index even_over 15 ≡ 0 → slice_index odd_over 14 ≡ 0 → slice_index over 15 ≡ 0
+joined_last even_over odd odd_over over size is last next =
+    sum_byte even_over (slice_index odd 15 ∷ each_below 15 (λ i. slice_index odd_over i)) over 15 size refl is (omega arith)
+    ∙ ap₂ bit_xor last next
 
 -- ---- the end
 
@@ -411,6 +510,11 @@ pub start_value : (W : ℕ → List ℕ) → pair_value (replicate 16 0) (replic
 unfolding ladder
 start_value W = padded_value (replicate 16 0) refl ∙ block_ladder zero_block IsBlock-zero
 
+pub start_of_two : (W : ℕ → List ℕ)
+    → rows_value (replicate 16 0) (replicate 16 0) (replicate 16 0) (replicate 16 0) ≡ ladder 0 W
+unfolding ladder
+start_of_two W = ap (λ y. y ⊕ step • y) (start_value W) ∙ ap (λ y. zero_block ⊕ y) (product_zero step Sized-step)
+
 pub moved_zeros : (x k : ℕ) (second : List ℕ) → (k ≡ 0 → x ≡ 0) → ((i : ℕ) → k ≤ i + 1 → slice_index second i ≡ 0)
     → (i : ℕ) → k + 1 ≤ i + 1 → slice_index (x ∷ each_below 15 (λ i. slice_index second i)) i ≡ 0
 moved_zeros x k second empty zeros zero h = empty (omega arith)
@@ -439,9 +543,13 @@ small_digits bytes high block is_high i h =
 
 -- ---- two products at once
 
--- the sum of those for two blocks, each by its own table
-abbrev pub row_sums : List ℕ → List ℕ → List ℕ → List ℕ → List ℕ → List ℕ → ℕ → List ℕ
-row_sums table high low table' high' low' r = row_sum table high low r ⊕ row_sum table' high' low' r
+-- the sum of the bytes of row r
+abbrev pub row_value : List (List ℕ) → ℕ → List ℕ
+row_value rows r = ladder 16 (λ i. first_byte (slice_index (slice_index_or rows r []) i))
+
+-- that of the bytes that row r of a table gives for a block, and of the row r that has been looked up for another block
+abbrev pub row_sums : List ℕ → List ℕ → List ℕ → List (List ℕ) → ℕ → List ℕ
+row_sums table high low rows r = row_sum table high low r ⊕ row_value rows r
 
 pub sum_value : (a b : List ℕ) → length a ≡ 16 → length b ≡ 16
     → ladder 16 (λ i. first_byte (slice_index (a ⊕ b) i)) ≡ ladder 16 (λ i. first_byte (slice_index a i)) ⊕ ladder 16 (λ i. first_byte (slice_index b i))
@@ -454,18 +562,29 @@ sum_value a b size size' =
     ∙ get_or-each 16 (λ i. bit_xor (slice_index a i) (slice_index b i)) i 0 lt))
     ∙ ladder-xor 16 f g (λ i. refl) (λ i. refl)
 
+pub summed_value : (table high low one bytes : List ℕ) (rows : List (List ℕ)) (r : ℕ)
+    → length one ≡ 16 → length (slice_index_or rows r []) ≡ 16 → bytes ≡ one ⊕ slice_index_or rows r []
+    → ((i : ℕ) → i < 16 → slice_index one i
+    ≡ bit_xor (slice_index table (16 * r + slice_index high i)) (slice_index table (256 + 16 * r + slice_index low i)))
+    → ladder 16 (λ i. first_byte (slice_index bytes i)) ≡ row_sums table high low rows r
+summed_value table high low one bytes rows r size size' is looked =
+    ap (λ b. ladder 16 (λ i. first_byte (slice_index b i))) is
+    ∙ sum_value one (slice_index_or rows r []) size size'
+    ∙ ap (λ y. y ⊕ row_value rows r) (looked_value table high low one r looked)
+
 -- the sum after the last turn
-pub pair_end : (h table squares x high low y high' low' first second result : List ℕ) (k : ℕ) → Sized h → AreProducts h table → AreProducts (h • h) squares
+pub pair_end : (h table squares x high low y high' low' first second result : List ℕ) (rows : List (List ℕ)) (k : ℕ) → Sized h → AreProducts h table → AreProducts (h • h) squares
     → IsBlock x → ((i : ℕ) → i < 16 → slice_index high i ≡ slice_index x i / 16) → ((i : ℕ) → i < 16 → slice_index low i ≡ slice_index x i % 16)
     → IsBlock y → ((i : ℕ) → i < 16 → slice_index high' i ≡ slice_index y i / 16) → ((i : ℕ) → i < 16 → slice_index low' i ≡ slice_index y i % 16)
+    → ((r : ℕ) → r < 16 → slice_index_or rows r [] ≡ each_below 16 (row_byte table high' low' r))
     → IsBlock first → IsBlock second → k ≡ 16
-    → pair_value first second ≡ ladder k (λ r. row_sums squares high low table high' low' (16 - k + r))
+    → pair_value first second ≡ ladder k (λ r. row_sums squares high low rows (16 - k + r))
     → result ≡ first ⊕ u128_times second → result ≡ (x • h ⊕ y) • h
-pair_end h table squares x high low y high' low' first second result k size p p' is_x is_high is_low is_y is_high' is_low' is_first is_second all value e =
+pair_end h table squares x high low y high' low' first second result rows k size p p' is_x is_high is_low is_y is_high' is_low' looked is_first is_second all value e =
     let F = row_sum squares high low in
-    let G = row_sum table high' low' in
+    let G = row_value rows in
     let sF : (r : ℕ) → Sized (F r) = λ r. Sized-ladder 16 (λ i. first_byte (row_byte squares high low r i)) (λ i. refl) in
-    let sG : (r : ℕ) → Sized (G r) = λ r. Sized-ladder 16 (λ i. first_byte (row_byte table high' low' r i)) (λ i. refl) in
+    let sG : (r : ℕ) → Sized (G r) = λ r. Sized-ladder 16 (λ i. first_byte (slice_index (slice_index_or rows r []) i)) (λ i. refl) in
     e ∙ sym (pair_is first second is_first is_second) ∙ value
     ∙ ap (λ n. ladder n (λ r. F (16 - n + r) ⊕ G (16 - n + r))) all
     ∙ ladder-same 16 (λ r. F (16 - 16 + r) ⊕ G (16 - 16 + r)) (λ r. F r ⊕ G r)
@@ -473,6 +592,10 @@ pair_end h table squares x high low y high' low' first second result k size p p'
     ∙ ladder-xor 16 F G sF sG
     ∙ ap₂ (λ a b. a ⊕ b)
     (product_rows squares (h • h) (Sized-product h h) p' x high low is_x is_high is_low)
-    (product_rows table h size p y high' low' is_y is_high' is_low')
+    (ladder-same 16 G (row_sum table high' low')
+    (λ r lt.
+    looked_value table high' low' (slice_index_or rows r []) r
+    (λ i within. ap (λ b. slice_index b i) (looked r lt) ∙ get_or-each 16 (row_byte table high' low' r) i 0 within))
+    ∙ product_rows table h size p y high' low' is_y is_high' is_low')
     ∙ ap (λ a. a ⊕ y • h) (sym (product_assoc x h h is_x.size size size))
     ∙ sym (product_xor_left (x • h) y h (Sized-product x h) is_y.size size)

@@ -117,12 +117,13 @@ impl<'k> UpdateBlock for KeyRef<'k> {
 
 impl<'k> UpdateBlocks for KeyRef<'k> {
     fn update_blocks(&self, xi: &mut Xi, input: AsChunks<'_, u8, BLOCK_LEN>, work: &mut Work) {
+        let (products, squares) = (self.products, self.squares);
         let mut sum = u8x16::from_array(*xi.as_ref());
         let mut rest = input.as_flattened();
         while let Some((pair, after)) = rest.split_first_chunk::<PAIR_LEN>() {
             let first = product::add(sum, u8x16::from_slice(&pair[..BLOCK_LEN]));
             let second = u8x16::from_slice(&pair[BLOCK_LEN..]);
-            sum = product::ghash_pair(self.products, self.squares, first, second);
+            sum = product::ghash_pair(products, squares, first, second);
             work.add_product();
             work.add_product();
             rest = after;

@@ -11,7 +11,7 @@
 //! `u128` in scalar registers the reduction took 1.14 times as long. It is byte by byte: in two lanes of 64 bits it took more
 //! instructions on ARM64, and as many on x86-64-v3.
 
-ghost use Rattle.std.specs.Prelude.{◌≡◌, ℕ, ◌+◌, ◌/◌, ◌%◌, ◌<◌, ◌≤◌, ◌==◌, bit_xor, if◌then◌else◌, [], ◌∷◌, slice_index, slice_index_or};
+ghost use Rattle.std.specs.Prelude.{◌≡◌, ℕ, ◌+◌, ◌*◌, ◌/◌, ◌%◌, ◌<◌, ◌≤◌, ◌==◌, bit_xor, if◌then◌else◌, [], ◌∷◌, slice_index, slice_index_or};
 ghost use Rattle.std.specs.Int.{to_be_bytes, w128};
 ghost use Rattle.std.specs.Simd.Lanes.{put_chunk};
 ghost use Rattle.aead_ciphers_base.specs.Bytes.{◌⊕◌, each_below};
@@ -58,18 +58,43 @@ pub(crate) fn ghash_pair(
 {
     let (first_high, first_low) = digits(first);
     let (second_high, second_low) = digits(second);
-    let mut sum = u8x16::splat(0);
-    let mut over = u8x16::splat(0);
-    for k in 0..16 {
-        let at = 16 * (15 - k);
-        let (front, back) = moved(sum, over);
-        let one = looked_up(squares, at, first_high, first_low);
-        let two = looked_up(table, at, second_high, second_low);
-        let bytes = add(one, two);
-        sum = add(front, bytes);
-        over = back;
+    let of_second = looked_up_rows(table, second_high, second_low);
+    let mut even = u8x16::splat(0);
+    let mut even_over = u8x16::splat(0);
+    let mut odd = u8x16::splat(0);
+    let mut odd_over = u8x16::splat(0);
+    for k in 0..8 {
+        let r = 14 - 2 * k;
+        let (even_front, even_back) = moved_by_two(even, even_over);
+        let even_first = looked_up(squares, 16 * r, first_high, first_low);
+        let even_bytes = add(even_first, of_second[r]);
+        even = add(even_front, even_bytes);
+        even_over = even_back;
+        let (odd_front, odd_back) = moved_by_two(odd, odd_over);
+        let odd_first = looked_up(squares, 16 * (r + 1), first_high, first_low);
+        let odd_bytes = add(odd_first, of_second[r + 1]);
+        odd = add(odd_front, odd_bytes);
+        odd_over = odd_back;
     }
+    let (front, back) = moved(odd, odd_over);
+    let sum = add(even, front);
+    let over = add(even_over, back);
     reduced(sum, over)
+}
+
+/// Returns for each of the 16 rows of each half of `table` what `looked_up` returns.
+#[inline(always)]
+fn looked_up_rows(table: &[u8; 512], high: u8x16, low: u8x16) -> [u8x16; 16]
+    requires high { (i : ℕ) → i < 16 → slice_index high i < 16 }
+    requires low { (i : ℕ) → i < 16 → slice_index low i < 16 }
+    ensures { (r : ℕ) → r < 16 → slice_index_or result r [] ≡ each_below 16 (λ i.
+        bit_xor (slice_index table.now (16 * r + slice_index high i)) (slice_index table.now (256 + 16 * r + slice_index low i))) }
+{
+    let mut rows = [u8x16::splat(0); 16];
+    for r in 0..16 {
+        rows[r] = looked_up(table, 16 * r, high, low);
+    }
+    rows
 }
 
 /// Returns the bytes of the two rows of `table` from the indices `at` and `256 + at` on, at the places `high` and `low`,
@@ -131,6 +156,29 @@ fn moved(first: u8x16, second: u8x16) -> (u8x16, u8x16)
             second,
             [
                 15, 16, 17, 18, 19, 20, 21, 22, 23, 24, 25, 26, 27, 28, 29, 30,
+            ],
+        ),
+    )
+}
+
+/// Moves 32 bytes by two places. The last two are lost.
+#[inline(always)]
+fn moved_by_two(first: u8x16, second: u8x16) -> (u8x16, u8x16)
+    ensures first { result.0 ≡ 0 ∷ 0 ∷ each_below 14 (λ i. slice_index first i) }
+    ensures second { result.1
+        ≡ slice_index first 14 ∷ slice_index first 15 ∷ each_below 14 (λ i. slice_index second i) }
+{
+    (
+        u8x16::splat(0).shuffle(
+            first,
+            [
+                14, 15, 16, 17, 18, 19, 20, 21, 22, 23, 24, 25, 26, 27, 28, 29,
+            ],
+        ),
+        first.shuffle(
+            second,
+            [
+                14, 15, 16, 17, 18, 19, 20, 21, 22, 23, 24, 25, 26, 27, 28, 29,
             ],
         ),
     )
