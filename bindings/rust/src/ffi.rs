@@ -99,7 +99,7 @@ macro_rules! functions {
 functions! {
     if crate::cpu::takes_v3();
 
-    fn key_init(key: &mut Key, bytes: *const u8, len: usize) -> bool;
+    fn key_init(key: *mut Key, bytes: *const u8, len: usize) -> bool;
 
     fn key_seal(
         key: &Key,
@@ -281,7 +281,7 @@ functions! {
     ) -> bool;
 
     fn sealer_init(
-        sealer: &mut Sealer,
+        sealer: *mut Sealer,
         key: *const u8,
         key_len: usize,
         iv: &[u8; 12],
@@ -299,7 +299,7 @@ functions! {
     ) -> bool;
 
     fn opener_init(
-        opener: &mut Opener,
+        opener: *mut Opener,
         key: *const u8,
         key_len: usize,
         iv: &[u8; 12],
@@ -367,21 +367,21 @@ functions! {
     ) -> bool;
 
     fn quic_key_init(
-        key: &mut QuicKey,
+        key: *mut QuicKey,
         bytes: *const u8,
         len: usize,
         iv: &[u8; 12],
     ) -> bool;
 
     fn quic_key_from_secret(
-        key: &mut QuicKey,
+        key: *mut QuicKey,
         version: u32,
         secret: *const u8,
         secret_len: usize,
     ) -> bool;
 
     fn quic_header_key_from_secret(
-        key: &mut Key,
+        key: *mut Key,
         version: u32,
         secret: *const u8,
         secret_len: usize,
@@ -418,14 +418,14 @@ functions! {
     ) -> bool;
 
     fn record_key_init(
-        key: &mut RecordKey,
+        key: *mut RecordKey,
         bytes: *const u8,
         len: usize,
         iv: &[u8; 12],
     ) -> bool;
 
     fn record_key_from_secret(
-        key: &mut RecordKey,
+        key: *mut RecordKey,
         secret: *const u8,
         secret_len: usize,
     ) -> bool;

@@ -1,6 +1,6 @@
 //! A key of QUIC's header protection that is expanded once.
 
-use crate::{accepted, cpu, ffi, QuicVersion, Unspecified, MASK_LEN, SAMPLE_LEN};
+use crate::{accepted, cpu, ffi, initialized, QuicVersion, Unspecified, MASK_LEN, SAMPLE_LEN};
 use core::fmt;
 
 /// An AES key of QUIC's header protection (RFC 9001 section 5.4.3), which is expanded once and makes many masks.
@@ -37,6 +37,7 @@ impl HeaderProtectionKey {
     /// assert!(HeaderProtectionKey::new(&[0; 32]).is_ok());
     /// assert!(HeaderProtectionKey::new(&[0; 24]).is_err());
     /// ```
+    #[inline]
     pub fn new(key_bytes: &[u8]) -> Result<Self, Unspecified> {
         cpu::require();
         Ok(HeaderProtectionKey(ffi::Key::new(key_bytes)?))
@@ -62,19 +63,16 @@ impl HeaderProtectionKey {
     /// assert_eq!(key.new_mask(&sample.to_be_bytes()), [0x43, 0x7b, 0x9a, 0xec, 0x36]);
     /// # Ok::<(), deerlapse::Unspecified>(())
     /// ```
+    #[inline]
     pub fn from_secret(version: QuicVersion, secret: &[u8]) -> Result<Self, Unspecified> {
         cpu::require();
-        let mut key = ffi::Key { words: [0; 399] };
-        // SAFETY: the pointer and its length are those of one slice, and the key is borrowed for writing.
-        accepted(unsafe {
-            ffi::quic_header_key_from_secret(
-                &mut key,
-                version as u32,
-                secret.as_ptr(),
-                secret.len(),
-            )
-        })?;
-        Ok(HeaderProtectionKey(key))
+        // SAFETY: the pointer and its length are those of one slice. A call that returns true wrote the whole key.
+        let key = unsafe {
+            initialized(|key| {
+                ffi::quic_header_key_from_secret(key, version as u32, secret.as_ptr(), secret.len())
+            })
+        };
+        Ok(HeaderProtectionKey(key?))
     }
 
     /// Returns the mask of 5 bytes for a sample of 16 bytes.

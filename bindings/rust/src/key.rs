@@ -1,6 +1,6 @@
 //! A key that is expanded once, and whose calls take the nonce.
 
-use crate::{accepted, cpu, ffi, Nonce, Unspecified, TAG_LEN};
+use crate::{accepted, cpu, ffi, initialized, Nonce, Unspecified, TAG_LEN};
 #[cfg(feature = "alloc")]
 use alloc::vec::Vec;
 use core::fmt;
@@ -46,6 +46,7 @@ impl LessSafeKey {
     /// assert!(LessSafeKey::new(&[0; 32]).is_ok());
     /// assert!(LessSafeKey::new(&[0; 24]).is_err());
     /// ```
+    #[inline]
     pub fn new(key_bytes: &[u8]) -> Result<Self, Unspecified> {
         cpu::require();
         Ok(LessSafeKey(ffi::Key::new(key_bytes)?))
@@ -428,11 +429,10 @@ impl fmt::Debug for LessSafeKey {
 
 impl ffi::Key {
     /// Expands a key of 16 or 32 bytes.
+    #[inline]
     pub(crate) fn new(bytes: &[u8]) -> Result<Self, Unspecified> {
-        let mut key = ffi::Key { words: [0; 399] };
-        // SAFETY: the pointer and its length are those of one slice, and the key is borrowed for writing.
-        accepted(unsafe { ffi::key_init(&mut key, bytes.as_ptr(), bytes.len()) })?;
-        Ok(key)
+        // SAFETY: the pointer and its length are those of one slice. A call that returns true wrote the whole key.
+        unsafe { initialized(|key| ffi::key_init(key, bytes.as_ptr(), bytes.len())) }
     }
 }
 

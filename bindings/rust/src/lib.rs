@@ -45,6 +45,7 @@ pub use xaes::Xaes256Gcm;
 
 use core::error::Error;
 use core::fmt;
+use core::mem::MaybeUninit;
 
 /// The length of a nonce, in bytes. That of XAES-256-GCM is [`XAES_NONCE_LEN`].
 ///
@@ -120,10 +121,27 @@ impl fmt::Display for Unspecified {
 impl Error for Unspecified {}
 
 /// Returns `Ok` if the library returned true.
+#[inline]
 fn accepted(answer: bool) -> Result<(), Unspecified> {
     if answer {
         Ok(())
     } else {
         Err(Unspecified)
     }
+}
+
+/// Returns the key that `init` writes, or fails if it returns false. The key's memory is not cleared before.
+///
+/// Clearing the memory and copying the key took a third as many instructions as expanding it. The functions that call this are
+/// inlined, so that the compiler of the caller sees the copies, and leaves one.
+///
+/// # Safety
+///
+/// `init` must write every byte of the key if it returns true.
+#[inline]
+unsafe fn initialized<K>(init: impl FnOnce(*mut K) -> bool) -> Result<K, Unspecified> {
+    let mut key = MaybeUninit::uninit();
+    accepted(init(key.as_mut_ptr()))?;
+    // SAFETY: `init` returned true.
+    Ok(unsafe { key.assume_init() })
 }

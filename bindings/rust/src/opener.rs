@@ -1,6 +1,6 @@
 //! A key that opens what a `Sealer` sealed.
 
-use crate::{accepted, cpu, ffi, Unspecified, NONCE_LEN};
+use crate::{accepted, cpu, ffi, initialized, Unspecified, NONCE_LEN};
 use core::fmt;
 use core::ops::{Range, RangeFrom};
 
@@ -42,28 +42,31 @@ impl Opener {
     /// assert!(Opener::new(&[0; 16], &[0; 12], 9..7).is_err());
     /// assert!(Opener::new(&[0; 24], &[0; 12], 7..9).is_err());
     /// ```
+    #[inline]
     pub fn new(
         key_bytes: &[u8],
         iv: &[u8; NONCE_LEN],
         numbers: Range<u64>,
     ) -> Result<Self, Unspecified> {
         cpu::require();
-        let mut opener = Opener {
-            state: ffi::Opener { words: [0; 430] },
-            limit: numbers.end,
+        // SAFETY: the pointer and its length are those of one slice, and the IV is a reference. A call that returns true
+        // wrote the whole state.
+        let state = unsafe {
+            initialized(|state| {
+                ffi::opener_init(
+                    state,
+                    key_bytes.as_ptr(),
+                    key_bytes.len(),
+                    iv,
+                    numbers.start,
+                    numbers.end,
+                )
+            })
         };
-        // SAFETY: the pointer and its length are those of one slice, and the others are references.
-        accepted(unsafe {
-            ffi::opener_init(
-                &mut opener.state,
-                key_bytes.as_ptr(),
-                key_bytes.len(),
-                iv,
-                numbers.start,
-                numbers.end,
-            )
-        })?;
-        Ok(opener)
+        Ok(Opener {
+            state: state?,
+            limit: numbers.end,
+        })
     }
 
     /// Returns the numbers that are left. The first is the number of the message that is opened next in order.

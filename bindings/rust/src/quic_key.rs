@@ -1,6 +1,6 @@
 //! Keys of QUIC's packets, and the secrets that they come from.
 
-use crate::{accepted, cpu, ffi, Unspecified, NONCE_LEN, TAG_LEN};
+use crate::{accepted, cpu, ffi, initialized, Unspecified, NONCE_LEN, TAG_LEN};
 use core::fmt;
 
 /// A version of QUIC, whose value is its number in a long header (RFC 9000 section 15, RFC 9369 section 3.1).
@@ -122,13 +122,15 @@ impl QuicKey {
     /// assert!(QuicKey::new(&[0; 32], &[0; 12]).is_ok());
     /// assert!(QuicKey::new(&[0; 24], &[0; 12]).is_err());
     /// ```
+    #[inline]
     pub fn new(key_bytes: &[u8], iv: &[u8; NONCE_LEN]) -> Result<Self, Unspecified> {
         cpu::require();
-        let mut key = ffi::QuicKey { words: [0; 401] };
-        // SAFETY: the pointer and its length are those of one slice, the key is borrowed for writing, and the IV is a
-        // reference.
-        accepted(unsafe { ffi::quic_key_init(&mut key, key_bytes.as_ptr(), key_bytes.len(), iv) })?;
-        Ok(QuicKey(key))
+        // SAFETY: the pointer and its length are those of one slice, and the IV is a reference. A call that returns true
+        // wrote the whole key.
+        let key = unsafe {
+            initialized(|key| ffi::quic_key_init(key, key_bytes.as_ptr(), key_bytes.len(), iv))
+        };
+        Ok(QuicKey(key?))
     }
 
     /// Creates the key and the IV of a secret (RFC 9001 section 5.1, RFC 9369 section 3.3.2), which has 32 bytes for
@@ -147,14 +149,16 @@ impl QuicKey {
     /// assert!(QuicKey::from_secret(QuicVersion::V2, &[0; 48]).is_ok());
     /// assert!(QuicKey::from_secret(QuicVersion::V2, &[0; 16]).is_err());
     /// ```
+    #[inline]
     pub fn from_secret(version: QuicVersion, secret: &[u8]) -> Result<Self, Unspecified> {
         cpu::require();
-        let mut key = ffi::QuicKey { words: [0; 401] };
-        // SAFETY: the pointer and its length are those of one slice, and the key is borrowed for writing.
-        accepted(unsafe {
-            ffi::quic_key_from_secret(&mut key, version as u32, secret.as_ptr(), secret.len())
-        })?;
-        Ok(QuicKey(key))
+        // SAFETY: the pointer and its length are those of one slice. A call that returns true wrote the whole key.
+        let key = unsafe {
+            initialized(|key| {
+                ffi::quic_key_from_secret(key, version as u32, secret.as_ptr(), secret.len())
+            })
+        };
+        Ok(QuicKey(key?))
     }
 
     /// Encrypts the payload of the packet with this number in place, and returns its tag. `header` is the packet's, not

@@ -1,6 +1,6 @@
 //! Keys of TLS 1.3's records, and the secrets that they come from.
 
-use crate::{accepted, cpu, ffi, Unspecified, NONCE_LEN};
+use crate::{accepted, cpu, ffi, initialized, Unspecified, NONCE_LEN};
 use core::fmt;
 
 /// Overwrites a traffic secret of 32 or 48 bytes with the one after a KeyUpdate (RFC 8446 section 7.2).
@@ -66,15 +66,15 @@ impl RecordKey {
     /// assert!(RecordKey::new(&[0; 32], &[0; 12]).is_ok());
     /// assert!(RecordKey::new(&[0; 24], &[0; 12]).is_err());
     /// ```
+    #[inline]
     pub fn new(key_bytes: &[u8], iv: &[u8; NONCE_LEN]) -> Result<Self, Unspecified> {
         cpu::require();
-        let mut key = ffi::RecordKey { words: [0; 401] };
-        // SAFETY: the pointer and its length are those of one slice, the key is borrowed for writing, and the IV is a
-        // reference.
-        accepted(unsafe {
-            ffi::record_key_init(&mut key, key_bytes.as_ptr(), key_bytes.len(), iv)
-        })?;
-        Ok(RecordKey(key))
+        // SAFETY: the pointer and its length are those of one slice, and the IV is a reference. A call that returns true
+        // wrote the whole key.
+        let key = unsafe {
+            initialized(|key| ffi::record_key_init(key, key_bytes.as_ptr(), key_bytes.len(), iv))
+        };
+        Ok(RecordKey(key?))
     }
 
     /// Creates the key and the IV of a traffic secret (RFC 8446 section 7.3), which has 32 bytes for
@@ -93,12 +93,14 @@ impl RecordKey {
     /// assert!(RecordKey::from_secret(&[0; 48]).is_ok());
     /// assert!(RecordKey::from_secret(&[0; 16]).is_err());
     /// ```
+    #[inline]
     pub fn from_secret(secret: &[u8]) -> Result<Self, Unspecified> {
         cpu::require();
-        let mut key = ffi::RecordKey { words: [0; 401] };
-        // SAFETY: the pointer and its length are those of one slice, and the key is borrowed for writing.
-        accepted(unsafe { ffi::record_key_from_secret(&mut key, secret.as_ptr(), secret.len()) })?;
-        Ok(RecordKey(key))
+        // SAFETY: the pointer and its length are those of one slice. A call that returns true wrote the whole key.
+        let key = unsafe {
+            initialized(|key| ffi::record_key_from_secret(key, secret.as_ptr(), secret.len()))
+        };
+        Ok(RecordKey(key?))
     }
 
     /// Seals the payload of the record with this number in place: the bytes after its header, which is not in `payload`.

@@ -1,6 +1,6 @@
 //! A key that counts its nonces.
 
-use crate::{accepted, cpu, ffi, Unspecified, NONCE_LEN, TAG_LEN};
+use crate::{accepted, cpu, ffi, initialized, Unspecified, NONCE_LEN, TAG_LEN};
 #[cfg(feature = "alloc")]
 use alloc::vec::Vec;
 use core::fmt;
@@ -55,28 +55,31 @@ impl Sealer {
     /// assert!(Sealer::new(&[0; 16], &[0; 12], 9..7).is_err());
     /// assert!(Sealer::new(&[0; 24], &[0; 12], 7..9).is_err());
     /// ```
+    #[inline]
     pub fn new(
         key_bytes: &[u8],
         iv: &[u8; NONCE_LEN],
         numbers: Range<u64>,
     ) -> Result<Self, Unspecified> {
         cpu::require();
-        let mut sealer = Sealer {
-            state: ffi::Sealer { words: [0; 430] },
-            limit: numbers.end,
+        // SAFETY: the pointer and its length are those of one slice, and the IV is a reference. A call that returns true
+        // wrote the whole state.
+        let state = unsafe {
+            initialized(|state| {
+                ffi::sealer_init(
+                    state,
+                    key_bytes.as_ptr(),
+                    key_bytes.len(),
+                    iv,
+                    numbers.start,
+                    numbers.end,
+                )
+            })
         };
-        // SAFETY: the pointer and its length are those of one slice, and the others are references.
-        accepted(unsafe {
-            ffi::sealer_init(
-                &mut sealer.state,
-                key_bytes.as_ptr(),
-                key_bytes.len(),
-                iv,
-                numbers.start,
-                numbers.end,
-            )
-        })?;
-        Ok(sealer)
+        Ok(Sealer {
+            state: state?,
+            limit: numbers.end,
+        })
     }
 
     /// Returns the numbers that are left. The first is the number of the next message.
