@@ -1,10 +1,10 @@
 -- The table of `product`, and the look-ups in its rows.
-use Rattle.std.proofs.Common.{◌≡◌, ℕ, zero, suc, ◌+◌, ◌-◌, ◌*◌, ◌/◌, ◌%◌, ◌^◌, ◌<◌, ◌≤◌, ◌⊎◌, Bool, true, false, List, [], ◌∷◌, ◌++◌, length, replicate, slice_index, slice_index_or, if◌then◌else◌, ◌==◌, bit_xor, refl, sym, ap, ap₂, subst, ◌∙◌, arith, inl, inr, length-append, reverse, Fits, w8}
+use Rattle.std.proofs.Common.{◌≡◌, ℕ, zero, suc, ◌+◌, ◌-◌, ◌*◌, ◌/◌, ◌%◌, ◌^◌, ◌<◌, ◌≤◌, Bool, true, false, List, [], ◌∷◌, ◌++◌, length, replicate, slice_index, slice_index_or, if◌then◌else◌, ◌==◌, bit_xor, refl, sym, ap, ap₂, subst, ◌∙◌, arith, inl, inr, length-append, reverse, Fits, w8}
 use Rattle.std.specs.Int.{to_be_bytes, w128}
 use Rattle.aead_ciphers_base.specs.ByteField.{value_of}
 use Rattle.std.specs.Int.Bits.{xor_shifted}
-use Rattle.std.specs.Simd.Lanes.{Each1, put_chunk}
-use Rattle.std.proofs.lemmas.Simd.{Each1-get_or, get_or-put_chunk_above, get_or-put_chunk_at, get_or-put_chunk_below, length-put_chunk}
+use Rattle.std.specs.Simd.Lanes.{Each1}
+use Rattle.std.proofs.lemmas.Simd.{Each1-get_or}
 use Rattle.std.proofs.lemmas.Bool.{cases_lt}
 use Rattle.std.proofs.lemmas.List.{get_or_append_left, get_or-append_right, get_or_past, length-replicate}
 use Rattle.std.proofs.lemmas.List.FromFn.{fill_by_all}
@@ -92,53 +92,6 @@ sum_byte a b sum i size size' is h =
 -- byte q of the table, of the multiples
 abbrev pub byte_at : List (List ℕ) → ℕ → ℕ
 byte_at blocks q = chosen_sum (q % 16) 0 (each_below 4 (λ k. slice_index (slice_index_or blocks (q / 256 * 4 + k) []) (q / 16 % 16)))
-
--- the bytes of row r of the first half of the table, or of the second
-pub row_is : (row : List ℕ) (blocks : List (List ℕ)) (half at r : ℕ) → r < 16 → at ≡ 256 * half + 16 * r
-    → ((n : ℕ) → n < 16 → slice_index row n ≡ chosen_sum n 0 (each_below 4 (λ k. slice_index (slice_index_or blocks (4 * half + k) []) r)))
-    → (n : ℕ) → n < 16 → slice_index row n ≡ byte_at blocks (at + n)
-row_is row blocks half at r less place is n within =
-    let q = at + n in
-    let sum = λ (digit from byte : ℕ). chosen_sum digit 0 (each_below 4 (λ k. slice_index (slice_index_or blocks (from + k) []) byte)) in
-    let digit : n ≡ q % 16 = omega arith in
-    let from : 4 * half ≡ q / 256 * 4 = omega arith in
-    let byte : r ≡ q / 16 % 16 = omega arith in
-    is n within ∙ ap (λ d. sum d (4 * half) r) digit ∙ ap₂ (sum (q % 16)) from byte
-
--- a byte of a table to which a row is written
-row_written : (table row : List ℕ) (at q : ℕ) (f : ℕ → ℕ) → length row ≡ 16 → at + 16 ≤ length table
-    → ((n : ℕ) → n < 16 → slice_index row n ≡ f (at + n)) → ((q < at) ⊎ (at + 16 ≤ q) → slice_index table q ≡ f q)
-    → slice_index (put_chunk at table row) q ≡ f q
-row_written table row at q f size fits is rest = elim (cases_lt q at) [
-  | inl less ↦ get_or-put_chunk_below at table row q 0 less ∙ rest (inl less)
-  | inr more ↦ elim (cases_lt q (at + 16)) [
-    | inl within ↦
-        let place : at + (q - at) ≡ q = omega arith in
-        ap (slice_index (put_chunk at table row)) (sym place)
-        ∙ get_or-put_chunk_at at table row (q - at) 0 (omega (arith, size)) (omega (arith, size)) ∙ is (q - at) (omega arith) ∙ ap f place
-    | inr past ↦ get_or-put_chunk_above at table row q 0 (omega (arith, size)) ∙ rest (inr past)
-  ]
-]
-
--- row r of each half written
-pub rows_written : (table high low : List ℕ) (r : ℕ) (f : ℕ → ℕ) → r < 16 → length table ≡ 512 → length high ≡ 16 → length low ≡ 16
-    → ((n : ℕ) → n < 16 → slice_index high n ≡ f (16 * r + n)) → ((n : ℕ) → n < 16 → slice_index low n ≡ f (256 + 16 * r + n))
-    → ((q : ℕ) → q < 512 → q % 256 < 16 * r → slice_index table q ≡ f q)
-    → (q : ℕ) → q < 512 → q % 256 < 16 * (r + 1) → slice_index (put_chunk (256 + 16 * r) (put_chunk (16 * r) table high) low) q ≡ f q
-rows_written table high low r f less size size_high size_low is_high is_low before q within done =
-    row_written (put_chunk (16 * r) table high) low (256 + 16 * r) q f size_low (omega (arith, size, length-put_chunk (16 * r) table high)) is_low
-    (λ beside_low.
-    row_written table high (16 * r) q f size_high (omega (arith, size)) is_high
-    (λ beside_high. before q within (elim beside_low [
-      | inl front ↦ elim beside_high [
-        | inl first ↦ omega arith
-        | inr next ↦ omega arith
-      ]
-      | inr back ↦ elim beside_high [
-        | inl first ↦ omega arith
-        | inr next ↦ omega arith
-      ]
-    ])))
 
 -- a byte of a sum
 byte-xor : (a b at : ℕ) → at < 16

@@ -10,6 +10,7 @@ pub mod PermutedRounds
 pub mod PieceLemmas
 pub mod Places
 pub mod ScheduleColumns
+pub mod TableRows
 pub mod WideBits
 pub mod WideBlocks
 pub mod WideCounters

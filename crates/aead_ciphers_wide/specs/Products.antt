@@ -46,6 +46,10 @@ chosen_sum n from numbers =
     let part = λ (k p : ℕ). if n / p % 2 == 1 then slice_index numbers (from + k) else 0 in
     bit_xor (bit_xor (bit_xor (part 0 8) (part 1 4)) (part 2 2)) (part 3 1)
 
+-- the sum of those of two numbers at which the digit n in base 4 has a one, its higher bit first
+abbrev pub chosen_of_two : ℕ → ℕ → ℕ → ℕ
+chosen_of_two n x y = bit_xor (if n / 2 % 2 == 1 then x else 0) (if n % 2 == 1 then y else 0)
+
 -- one table has the products of a block, and the other those of its square
 pub record ArePowers (products squares : List ℕ) : Type 0 where
   pub first : AreProducts (subkey products) products

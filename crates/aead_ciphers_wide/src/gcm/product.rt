@@ -6,9 +6,10 @@
 //! bytes are added up from the last row on, moved by one place for each row.
 //!
 //! What was measured: two blocks, with a second table for the square of the subkey, take two thirds of the time of two products,
-//! and about seven blocks regain the time of making that table. Rows are looked up, 16 bytes at a time, in the multiples of the
-//! subkey: bytes moved one by one took 2.5 times as long, and doubling on vectors in place of `u128` gained 1 % of a key. On a
-//! `u128` in scalar registers the reduction took 1.14 times as long. It is byte by byte: in two lanes of 64 bits it took more
+//! and about seven blocks regain the time of making that table. The rows of a table are interleaved from the multiples of the
+//! subkey: four look-ups in them for each row took 2.2 times as long on x86-64-v2 and 1.6 times on x86-64-v3, and bytes moved
+//! one by one 2.5 times as long as those look-ups. Doubling on vectors in place of `u128` gained 1 % of a key. On a `u128` in
+//! scalar registers the reduction took 1.14 times as long. It is byte by byte: in two lanes of 64 bits it took more
 //! instructions on ARM64, and as many on x86-64-v3.
 //!
 //! For two blocks, the even and the odd rows have a sum each, and the rows of the second block, which doesn't wait for the block
@@ -22,12 +23,11 @@
 //! of 64 bits over two independent sums 1.27. Reducing a sum only when the next pair has been looked up takes 0.9 of the cycles
 //! of Cortex-A53, and 1.08 of the time on x86-64, which has too few registers for it.
 
-ghost use Rattle.std.specs.Prelude.{◌≡◌, ℕ, ◌+◌, ◌*◌, ◌/◌, ◌%◌, ◌<◌, ◌≤◌, ◌==◌, bit_xor, if◌then◌else◌, [], ◌∷◌, slice_index, slice_index_or};
+ghost use Rattle.std.specs.Prelude.{◌≡◌, ℕ, ◌+◌, ◌*◌, ◌/◌, ◌%◌, ◌<◌, ◌≤◌, ◌⊎◌, ◌==◌, bit_xor, if◌then◌else◌, [], ◌∷◌, slice_index, slice_index_or};
 ghost use Rattle.std.specs.Int.{to_be_bytes, w128};
-ghost use Rattle.std.specs.Simd.Lanes.{put_chunk};
 ghost use Rattle.aead_ciphers_base.specs.Bytes.{◌⊕◌, each_below};
 ghost use Rattle.aead_ciphers.specs.Ghash.{◌•◌};
-ghost use Rattle.aead_ciphers_wide.specs.Products.{AreProducts, ArePowers, chosen_sum, folded_byte, subkey, u128_times};
+ghost use Rattle.aead_ciphers_wide.specs.Products.{AreProducts, ArePowers, chosen_of_two, chosen_sum, folded_byte, subkey, u128_times};
 ghost use Rattle.aead_ciphers.specs.Multiples.{monomial_block};
 
 use crate::permute::look_up;
@@ -228,20 +228,30 @@ pub(crate) fn write_products(table: &mut [u8; 512], block: u128)
     ensures subkey { subkey table.new ≡ to_be_bytes w128 block }
 {
     let multiples = blocks(multiples(block));
-    for r in 0..16 {
-        let at = r as u8;
-        let high = sums_at(multiples[0], multiples[1], multiples[2], multiples[3], at);
-        let low = sums_at(multiples[4], multiples[5], multiples[6], multiples[7], at);
-        write_table_row(table, 16 * r, high);
-        write_table_row(table, 256 + 16 * r, low);
-    }
+    write_half(
+        table,
+        0,
+        multiples[0],
+        multiples[1],
+        multiples[2],
+        multiples[3],
+    );
+    write_half(
+        table,
+        256,
+        multiples[4],
+        multiples[5],
+        multiples[6],
+        multiples[7],
+    );
 }
 
 /// Writes `row` to the 16 bytes of `table` from index `at` on.
 #[inline(always)]
 fn write_table_row(table: &mut [u8; 512], at: usize, row: u8x16)
     requires { at + 16 ≤ 512 }
-    ensures { table.new ≡ put_chunk at table.old row }
+    ensures written { (n : ℕ) → n < 16 → slice_index table.new (at + n) ≡ slice_index row n }
+    ensures others { (q : ℕ) → (q < at) ⊎ (at + 16 ≤ q) → slice_index table.new q ≡ slice_index table.old q }
 {
     row.copy_to_slice(&mut table[at..]);
 }
@@ -299,36 +309,102 @@ fn blocks(numbers: [u128; 8]) -> [u8x16; 8]
     ]
 }
 
-/// Returns byte `at` of the sum of those of the blocks at which a digit has a one, its highest bit first, for each digit.
+/// Writes a half of `table`, from index `at` on: row `r` has byte `r` of the sum of those of the blocks at which a digit has a
+/// one, its highest bit first, for each digit.
 #[inline(always)]
-fn sums_at(a: u8x16, b: u8x16, c: u8x16, d: u8x16, at: u8) -> u8x16
-    requires { at < 16 }
-    ensures { (n : ℕ) → n < 16 → slice_index result n
-        ≡ chosen_sum n 0 (slice_index a at ∷ slice_index b at ∷ slice_index c at ∷ slice_index d at ∷ []) }
+fn write_half(table: &mut [u8; 512], at: usize, a: u8x16, b: u8x16, c: u8x16, d: u8x16)
+    requires { at + 256 ≤ 512 }
+    ensures written { (r n : ℕ) → r < 16 → n < 16 → slice_index table.new (at + (16 * r + n))
+        ≡ chosen_sum n 0 (slice_index a r ∷ slice_index b r ∷ slice_index c r ∷ slice_index d r ∷ []) }
+    ensures others { (q : ℕ) → (q < at) ⊎ (at + 256 ≤ q) → slice_index table.new q ≡ slice_index table.old q }
 {
-    let eights = u8x16::from_array([
-        128, 128, 128, 128, 128, 128, 128, 128, 0, 0, 0, 0, 0, 0, 0, 0,
-    ]);
-    let fours = u8x16::from_array([
-        128, 128, 128, 128, 0, 0, 0, 0, 128, 128, 128, 128, 0, 0, 0, 0,
-    ]);
-    let twos = u8x16::from_array([
-        128, 128, 0, 0, 128, 128, 0, 0, 128, 128, 0, 0, 128, 128, 0, 0,
-    ]);
-    let ones = u8x16::from_array([
-        128, 0, 128, 0, 128, 0, 128, 0, 128, 0, 128, 0, 128, 0, 128, 0,
-    ]);
-    let high = add(chosen(a, eights, at), chosen(b, fours, at));
-    add(add(high, chosen(c, twos, at)), chosen(d, ones, at))
+    let rows = rows(a, b, c, d);
+    for r in 0..16 {
+        write_table_row(table, at + 16 * r, rows[r]);
+    }
 }
 
-/// Returns byte `at` of `block` at the places at which `others` is 0, and a zero at those at which it is 128.
+/// Returns the rows of a half. A sum of four blocks is that of a sum of the first two, which the two higher bits of the digit
+/// choose, and of a sum of the others.
 #[inline(always)]
-fn chosen(block: u8x16, others: u8x16, at: u8) -> u8x16
-    requires at { at < 16 }
-    requires others { (i : ℕ) → i < 16 → slice_index others i % 128 ≡ 0 }
-    ensures { (i : ℕ) → i < 16
-        → slice_index result i ≡ (if slice_index others i == 0 then slice_index block at else 0) }
+fn rows(a: u8x16, b: u8x16, c: u8x16, d: u8x16) -> [u8x16; 16]
+    ensures { (r n : ℕ) → r < 16 → n < 16 → slice_index (slice_index_or result r []) n
+        ≡ chosen_sum n 0 (slice_index a r ∷ slice_index b r ∷ slice_index c r ∷ slice_index d r ∷ []) }
 {
-    look_up(block.to_array(), others + u8x16::splat(at))
+    let [high0, high1, high2, high3] = sums_of_two(a, b);
+    let [low0, low1, low2, low3] = sums_of_two(c, d);
+    let [r0, r1, r2, r3] = four_rows(high0, low0);
+    let [r4, r5, r6, r7] = four_rows(high1, low1);
+    let [r8, r9, r10, r11] = four_rows(high2, low2);
+    let [r12, r13, r14, r15] = four_rows(high3, low3);
+    [
+        r0, r1, r2, r3, r4, r5, r6, r7, r8, r9, r10, r11, r12, r13, r14, r15,
+    ]
+}
+
+/// Returns the bytes of zeros, of `b`, of `a` and of their sum at each place in turn, four places in each vector.
+#[inline(always)]
+fn sums_of_two(a: u8x16, b: u8x16) -> [u8x16; 4]
+    ensures { (k i : ℕ) → k < 4 → i < 16 → slice_index (slice_index_or result k []) i
+        ≡ chosen_of_two (i % 4) (slice_index a (4 * k + i / 4)) (slice_index b (4 * k + i / 4)) }
+{
+    let (low_front, low_back) = interleaved(u8x16::splat(0), b);
+    let (high_front, high_back) = interleaved(a, add(a, b));
+    let (first, second) = interleaved_in_pairs(low_front, high_front);
+    let (third, fourth) = interleaved_in_pairs(low_back, high_back);
+    [first, second, third, fourth]
+}
+
+/// Returns the bytes of two vectors in turn: those of their first halves, and those of their second halves.
+#[inline(always)]
+fn interleaved(a: u8x16, b: u8x16) -> (u8x16, u8x16)
+    ensures front { (i : ℕ) → i < 16 → slice_index result.0 i ≡ slice_index (if i % 2 == 0 then a else b) (i / 2) }
+    ensures back { (i : ℕ) → i < 16 → slice_index result.1 i ≡ slice_index (if i % 2 == 0 then a else b) (8 + i / 2) }
+{
+    (
+        a.shuffle(b, [0, 16, 1, 17, 2, 18, 3, 19, 4, 20, 5, 21, 6, 22, 7, 23]),
+        a.shuffle(
+            b,
+            [8, 24, 9, 25, 10, 26, 11, 27, 12, 28, 13, 29, 14, 30, 15, 31],
+        ),
+    )
+}
+
+/// Does the same as `interleaved`, with two bytes of each in turn.
+#[inline(always)]
+fn interleaved_in_pairs(a: u8x16, b: u8x16) -> (u8x16, u8x16)
+    ensures front { (i : ℕ) → i < 16
+        → slice_index result.0 i ≡ slice_index (if i / 2 % 2 == 0 then a else b) (2 * (i / 4) + i % 2) }
+    ensures back { (i : ℕ) → i < 16
+        → slice_index result.1 i ≡ slice_index (if i / 2 % 2 == 0 then a else b) (8 + (2 * (i / 4) + i % 2)) }
+{
+    (
+        a.shuffle(b, [0, 1, 16, 17, 2, 3, 18, 19, 4, 5, 20, 21, 6, 7, 22, 23]),
+        a.shuffle(
+            b,
+            [8, 9, 24, 25, 10, 11, 26, 27, 12, 13, 28, 29, 14, 15, 30, 31],
+        ),
+    )
+}
+
+/// Returns four rows, each of the sums of a byte of `high` and a byte of `low`, of which each row has four: digit `n` has that of
+/// `high` at its two higher bits, and that of `low` at its two lower.
+#[inline(always)]
+fn four_rows(high: u8x16, low: u8x16) -> [u8x16; 4]
+    ensures { (j n : ℕ) → j < 4 → n < 16 → slice_index (slice_index_or result j []) n
+        ≡ bit_xor (slice_index high (4 * j + n / 4)) (slice_index low (4 * j + n % 4)) }
+{
+    [
+        high.swizzle([0, 0, 0, 0, 1, 1, 1, 1, 2, 2, 2, 2, 3, 3, 3, 3])
+            ^ low.swizzle([0, 1, 2, 3, 0, 1, 2, 3, 0, 1, 2, 3, 0, 1, 2, 3]),
+        high.swizzle([4, 4, 4, 4, 5, 5, 5, 5, 6, 6, 6, 6, 7, 7, 7, 7])
+            ^ low.swizzle([4, 5, 6, 7, 4, 5, 6, 7, 4, 5, 6, 7, 4, 5, 6, 7]),
+        high.swizzle([8, 8, 8, 8, 9, 9, 9, 9, 10, 10, 10, 10, 11, 11, 11, 11])
+            ^ low.swizzle([8, 9, 10, 11, 8, 9, 10, 11, 8, 9, 10, 11, 8, 9, 10, 11]),
+        high.swizzle([
+            12, 12, 12, 12, 13, 13, 13, 13, 14, 14, 14, 14, 15, 15, 15, 15,
+        ]) ^ low.swizzle([
+            12, 13, 14, 15, 12, 13, 14, 15, 12, 13, 14, 15, 12, 13, 14, 15,
+        ]),
+    ]
 }
