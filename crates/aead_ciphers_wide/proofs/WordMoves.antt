@@ -1,9 +1,10 @@
 -- Bytes of a word that change places, and bits that fill them.
-use Rattle.std.proofs.Common.{◌≡◌, ℕ, ◌+◌, ◌*◌, ◌/◌, ◌%◌, ◌^◌, ◌<◌, Bool, false, List, length, map, replicate, slice_index, bit_and, cond, eqb, ◌==◌, Fits, w8, refl, sym, ap, ap₂, ◌∙◌, arith}
+use Rattle.std.proofs.Common.{◌≡◌, ℕ, ◌+◌, ◌*◌, ◌/◌, ◌%◌, ◌^◌, ◌<◌, List, [], length, map, replicate, slice_index, slice_index_or, bit_and, ◌==◌, false, Fits, w8, refl, sym, ap, ap₂, ◌∙◌, arith}
 use Rattle.std.specs.Int.{bit_at, to_le_bytes, w128}
-use Rattle.std.specs.Simd.Lanes.{zip2, Each1, sel_l, top}
+use Rattle.std.specs.Simd.Lanes.{zip2, Each1}
+use Rattle.std.proofs.lemmas.Nat.{and_mask}
 use Rattle.std.proofs.lemmas.Nat.Bits.{bit_at-lt}
-use Rattle.std.proofs.lemmas.Simd.{Each1-get_or, tops_compared, get_or-sel_l, get_or-zip2, get_or-replicate, length-zip2}
+use Rattle.std.proofs.lemmas.Simd.{Each1-get_or, get_or-zip2, get_or-replicate}
 use Rattle.std.proofs.lemmas.List.FromFn.{fill_by_all}
 use Rattle.aead_ciphers_base.specs.ByteField.{bits_of, value_of}
 use Rattle.aead_ciphers_base.specs.Bytes.{each_below}
@@ -12,7 +13,9 @@ use Rattle.aead_ciphers_base.proofs.EachLemmas.{get_or-each}
 use Rattle.aead_ciphers_wide.specs.WidePlanes.{place_of_eight}
 use Rattle.aead_ciphers_base.proofs.NumberBits.{bit_at-mod, bit_at-shr, same_in_table, value_of-bits_of}
 use Rattle.aead_ciphers_base.proofs.PlaneBits.{bits_of_at}
+use Rattle.aead_ciphers_wide.specs.declared.word.TheConstants.{FILLED}
 use Rattle.aead_ciphers_wide.proofs.EightPacking.{byte_is}
+use Rattle.aead_ciphers_wide.proofs.Places.{looked_up_at}
 
 pub bit_of_byte : (x p : ℕ) → p < 128 → bit_at x p ≡ bit_at (slice_index (to_le_bytes w128 x) (p / 8)) (p % 8)
 bit_of_byte x p h =
@@ -43,31 +46,35 @@ bytes_move from within x y e k r c hk hr hc =
 
 -- ---- bits that fill bytes
 
-chosen_is : (v b : ℕ) → v < 256 → b < 8 → cond (eqb (bit_and v (2 ^ b)) (2 ^ b)) 255 0 ≡ 255 * bit_at v b
-chosen_is v b hv hb =
-    same_in_table (λ b v. cond (eqb (bit_and v (2 ^ b)) (2 ^ b)) 255 0) (λ b v. 255 * bit_at v b) 8 256 b v refl hb hv
+-- the table at a digit
+filled_digit : (b v : ℕ) → b < 4 → v < 16 → slice_index (slice_index_or FILLED b []) v ≡ 255 * bit_at v b
+filled_digit b v hb hv =
+    same_in_table (λ b v. slice_index (slice_index_or FILLED b []) v) (λ b v. 255 * bit_at v b) 4 16 b v refl hb hv
 
-pub filled_is : (bytes : List ℕ) (d b : ℕ) → length bytes ≡ 16 → Each1 (Fits w8) bytes → b < 8 → d ≡ 2 ^ b → (j : ℕ) → j < 16
-    → slice_index (sel_l (map (top 7) (zip2 (λ a b. cond (eqb a b) 255 0) (zip2 bit_and bytes (replicate 16 d)) (replicate 16 d)))
-    (replicate 16 255) (replicate 16 0)) j
-    ≡ 255 * bit_at (slice_index bytes j) b
-filled_is bytes d b size fits hb is j h =
-    let digits = replicate 16 d in
-    let xs = zip2 bit_and bytes digits in
-    let long : length xs ≡ 16 = length-zip2 bit_and bytes digits size ∙ size in
-    let ms = zip2 eqb xs digits in
-    let long' : length ms ≡ 16 = length-zip2 eqb xs digits long ∙ long in
-    let v = slice_index bytes j in
-    let small : v < 256 = (Each1-get_or (Fits w8) bytes j 0 (omega arith) fits).fits in
-    let digit : slice_index digits j ≡ 2 ^ b = get_or-replicate 16 j d 0 h ∙ is in
-    ap (λ ms. slice_index (sel_l ms (replicate 16 255) (replicate 16 0)) j) (tops_compared w8 eqb xs digits)
-    ∙ get_or-sel_l ms (replicate 16 255) (replicate 16 0) j 0 (omega arith) h h
-    ∙ ap₂ (λ (b : Bool) (y : ℕ). cond b y (slice_index (replicate 16 0) j))
-    (get_or-zip2 eqb xs digits j 0 0 false (omega arith) h ∙ ap (λ x. eqb x (slice_index digits j)) (get_or-zip2 bit_and bytes digits j 0 0 0 (omega arith) h)
-    ∙ ap (λ x. eqb (bit_and v x) x) digit)
-    (get_or-replicate 16 j 255 0 h)
-    ∙ ap (λ y. cond (eqb (bit_and v (2 ^ b)) (2 ^ b)) 255 y) (get_or-replicate 16 j 0 0 h)
-    ∙ chosen_is v b small hb
+-- a look-up in the table
+pub filled_is : (digits : List ℕ) (b : ℕ) → length digits ≡ 16 → b < 4 → ((i : ℕ) → i < 16 → slice_index digits i < 16) → (j : ℕ) → j < 16
+    → slice_index (map (slice_index (slice_index_or FILLED b [])) digits) j ≡ 255 * bit_at (slice_index digits j) b
+filled_is digits b size hb small j h =
+    looked_up_at (slice_index_or FILLED b []) digits j size h ∙ filled_digit b (slice_index digits j) hb (small j h)
+
+-- the digits of bytes
+pub low_digit : (v : List ℕ) (i : ℕ) → length v ≡ 16 → i < 16 → slice_index (zip2 bit_and v (replicate 16 15)) i ≡ slice_index v i % 16
+low_digit v i size h =
+    get_or-zip2 bit_and v (replicate 16 15) i 0 0 0 (omega (arith, size)) h
+    ∙ ap (bit_and (slice_index v i)) (get_or-replicate 16 i 15 0 h) ∙ and_mask (slice_index v i) 4
+
+pub high_digit : (v : List ℕ) (i : ℕ) → length v ≡ 16 → i < 16
+    → slice_index (zip2 (λ (x n : ℕ). x / 2 ^ n) v (replicate 16 4)) i ≡ slice_index v i / 16
+high_digit v i size h =
+    get_or-zip2 (λ (x n : ℕ). x / 2 ^ n) v (replicate 16 4) i 0 0 0 (omega (arith, size)) h
+    ∙ ap (λ n. slice_index v i / 2 ^ n) (get_or-replicate 16 i 4 0 h)
+
+pub small_low : (v : List ℕ) → length v ≡ 16 → (i : ℕ) → i < 16 → slice_index (zip2 bit_and v (replicate 16 15)) i < 16
+small_low v size i h = omega (arith, low_digit v i size h)
+
+pub small_high : (v : List ℕ) → length v ≡ 16 → Each1 (Fits w8) v → (i : ℕ) → i < 16
+    → slice_index (zip2 (λ (x n : ℕ). x / 2 ^ n) v (replicate 16 4)) i < 16
+small_high v size fits i h = omega (arith, high_digit v i size h, (Each1-get_or (Fits w8) v i 0 (omega (arith, size)) fits).fits)
 
 -- a bit that fills a byte
 pub filled_bit : (d b : ℕ) → d < 2 → b < 8 → bit_at (255 * d) b ≡ d

@@ -65,13 +65,15 @@ impl RoundKeyPlanes<WiderWord> for KeyPlanes {
     }
 }
 
-/// The plane of one bit of each byte, in two words, the lower word first.
+/// The plane of one bit of each digit, which are in base 16, in two words, the lower word first.
 #[inline(always)]
-fn plane_of(bytes: u8x16, bit: u8) -> (u64, u64)
-    ensures { (b p : ℕ) → b < 8 → bit ≡ 2 ^ b → p < 128
-        → bit_at (result.1 * 2 ^ 64 + result.0) p ≡ bit_at (slice_index bytes (p / 8)) b }
+fn plane_of(digits: u8x16, bit: usize) -> (u64, u64)
+    requires bit { bit < 4 }
+    requires digits { (i : ℕ) → i < 16 → slice_index digits i < 16 }
+    ensures { (p : ℕ) → p < 128
+        → bit_at (result.1 * 2 ^ 64 + result.0) p ≡ bit_at (slice_index digits (p / 8)) bit }
 {
-    Word::filled(bytes, bit).lanes()
+    Word::filled(digits, bit).lanes()
 }
 
 /// Packs a round key into each of the eight blocks.
@@ -80,14 +82,16 @@ fn pack_round_key(block: Block) -> KeyPlanes
         → plane_byte (planes_of result) p ≡ slice_index block (p / 8) }
 {
     let bytes = u8x16::from_array(block);
-    let (a0, a1) = plane_of(bytes, 1);
-    let (b0, b1) = plane_of(bytes, 2);
-    let (c0, c1) = plane_of(bytes, 4);
-    let (d0, d1) = plane_of(bytes, 8);
-    let (e0, e1) = plane_of(bytes, 16);
-    let (f0, f1) = plane_of(bytes, 32);
-    let (g0, g1) = plane_of(bytes, 64);
-    let (h0, h1) = plane_of(bytes, 128);
+    let low = bytes & u8x16::splat(15);
+    let high = bytes >> u8x16::splat(4);
+    let (a0, a1) = plane_of(low, 0);
+    let (b0, b1) = plane_of(low, 1);
+    let (c0, c1) = plane_of(low, 2);
+    let (d0, d1) = plane_of(low, 3);
+    let (e0, e1) = plane_of(high, 0);
+    let (f0, f1) = plane_of(high, 1);
+    let (g0, g1) = plane_of(high, 2);
+    let (h0, h1) = plane_of(high, 3);
     [
         a0, a1, b0, b1, c0, c1, d0, d1, e0, e1, f0, f1, g0, g1, h0, h1,
     ]
