@@ -12,7 +12,8 @@ pub(super) const CHUNK_LEN: usize = 192 * BLOCK_LEN;
 /// The length of a batch, in bytes: sixteen blocks, which are whole passes of every cipher that is called here.
 pub(super) const BATCH_LEN: usize = 16 * BLOCK_LEN;
 
-/// The length of the buffer for up to four blocks, in bytes. So few are one call of every cipher that is called here.
+/// The length of the buffer for few blocks, in bytes: four, which the cipher of `aead_ciphers_base` encrypts in a pass, and
+/// that of `aead_ciphers_wide` by byte permutes.
 pub(super) const FEW_LEN: usize = 4 * BLOCK_LEN;
 
 /// Encrypts or decrypts the bytes from `start` on to the front of `in_out`, chunk by chunk, and returns how many they are.

@@ -5,12 +5,6 @@ use Rattle.aead_ciphers.proofs
 use proofs.RunningHash.{to_end}
 use proofs.aes_gcm.opening.open_fitting_with.Goals as goal
 
-pub authenticate-requires-clause-fits : goal.authenticate-requires-clause-fits
-authenticate-requires-clause-fits g c =
-    let start = c.args.start in
-    let was = c.args.in_out.now in
-    subst (Fits (length (aad_bytes c.args.aad))) (sym (ap length (to_end start was) ∙ length-drop start was)) c.requires.fits
-
 pub returns-in_err-counter-clause-opened : goal.returns-in_err-counter-clause-opened
 returns-in_err-counter-clause-opened g c =
     let aad = aad_bytes c.args.aad in
