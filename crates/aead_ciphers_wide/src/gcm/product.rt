@@ -13,15 +13,17 @@
 //! instructions on ARM64, and as many on x86-64-v3.
 //!
 //! For two blocks, the even and the odd rows have a sum each, and the rows of the second block, which doesn't wait for the block
-//! before, are looked up first. By llvm-mca the loop over pairs takes 0.84 of the cycles of one sum on Cortex-A53, 0.90 on
-//! Cortex-A55 and 0.98 on Cortex-A72, in as many instructions; on an x86-64 processor of 2019 it takes 0.985 of the time. On
-//! Cortex-A72 a look-up of 16 bytes is three operations, so that 150 of the 162 cycles are those of its two vector units. Also
-//! tried on ARM64, per pair of blocks and against one sum: four blocks at a time, with a table for each of four powers, take 0.89
-//! of the instructions and 0.90 of the cycles of Cortex-A72, but 1.03 of the instructions on x86-64-v2, and a key twice the
-//! memory and two more tables to make; three blocks take 0.94 of the instructions and of the cycles. Tables of the high digits
-//! alone, where the sum of the low digits is shifted by four bits at the end, take 1.10 of the instructions, and shifts in lanes
-//! of 64 bits over two independent sums 1.27. Reducing a sum only when the next pair has been looked up takes 0.9 of the cycles
-//! of Cortex-A53, and 1.08 of the time on x86-64, which has too few registers for it.
+//! before, are looked up first. By llvm-mca 14, the loop over pairs takes 284 cycles on Cortex-A53 (with one sum: 337), 311 on
+//! Cortex-A55 (345) and 162 on Cortex-A72 (165), in 219 instructions (217). On x86-64-v2 it takes 267 instructions (263) and
+//! 0.985 of the time. On Cortex-A72 a look-up of 16 bytes is three operations, so that two blocks keep its two vector units busy
+//! for 150 cycles in any order.
+//!
+//! Also tried in C on ARM64, for two blocks and against one sum (210 instructions): four blocks at a time, with tables for four
+//! powers, take 188 instructions and 0.90 of the cycles of Cortex-A72, but 1.03 of the instructions on x86-64-v2, and a key has
+//! twice the memory and two more tables to make; three blocks take 197 instructions. Tables of the high digits alone, where the
+//! sum of the low digits is shifted by four bits at the end, take 231, and shifts in lanes of 64 bits over two independent sums
+//! 267. Reducing a sum only when rows of the next pair have been looked up takes 0.90 of the cycles of Cortex-A53, and 1.08 of
+//! the time on x86-64, which has too few registers for it.
 
 ghost use Rattle.std.specs.Prelude.{◌≡◌, ℕ, ◌+◌, ◌*◌, ◌/◌, ◌%◌, ◌<◌, ◌≤◌, ◌⊎◌, ◌==◌, bit_xor, if◌then◌else◌, [], ◌∷◌, slice_index, slice_index_or};
 ghost use Rattle.std.specs.Int.{to_be_bytes, w128};
@@ -100,8 +102,8 @@ pub(crate) fn ghash_pair(
 fn looked_up_rows(table: &[u8; 512], high: u8x16, low: u8x16) -> [u8x16; 16]
     requires high { (i : ℕ) → i < 16 → slice_index high i < 16 }
     requires low { (i : ℕ) → i < 16 → slice_index low i < 16 }
-    ensures { (r : ℕ) → r < 16 → slice_index_or result r [] ≡ each_below 16 (λ i.
-        bit_xor (slice_index table.now (16 * r + slice_index high i)) (slice_index table.now (256 + 16 * r + slice_index low i))) }
+    ensures { (r : ℕ) → r < 16 → slice_index_or result r [] ≡ each_below 16 (λ i. bit_xor
+        (slice_index table.now (16 * r + slice_index high i)) (slice_index table.now (256 + 16 * r + slice_index low i))) }
 {
     let mut rows = [u8x16::splat(0); 16];
     for k in 0..16 {
