@@ -31,6 +31,26 @@ impl fmt::Debug for QuicKeys {
     }
 }
 
+/// The keys of one direction of QUIC that a key update replaces: those of payloads, without the one that masks headers (RFC 9001
+/// section 6.1).
+#[derive(Drop)]
+pub struct PacketKeys {
+    /// The key for payloads.
+    pub key: AeadKeyBytes,
+    /// The IV of the nonces.
+    pub iv: [u8; IV_LEN],
+}
+
+impl fmt::Debug for PacketKeys {
+    ghost use Rattle.std.specs.Prelude.{Some, codes};
+
+    ghost debug_output = { λ keys. Some (codes "PacketKeys { .. }") };
+
+    fn fmt<W: fmt::Write>(&self, f: &mut fmt::Formatter<W>) -> fmt::Result {
+        f.write_str("PacketKeys { .. }")
+    }
+}
+
 /// The key of one direction of TLS 1.3's records (RFC 8446 section 7.3).
 #[derive(Drop)]
 pub struct RecordKeys {

@@ -17,6 +17,6 @@ mod secret;
 mod suite;
 
 pub use error::DerivationError;
-pub use keys::{AeadKeyBytes, HeaderKeyBytes, IV_LEN, QuicKeys, RecordKeys};
+pub use keys::{AeadKeyBytes, HeaderKeyBytes, IV_LEN, PacketKeys, QuicKeys, RecordKeys};
 pub use secret::Secret;
 pub use suite::Suite;

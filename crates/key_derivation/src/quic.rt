@@ -1,14 +1,15 @@
 //! Secrets of QUIC, and the keys that they give in each version (RFC 9001 sections 5.1, 5.2 and 6.1, RFC 9369 section 3).
 
-ghost use Rattle.std.specs.Prelude.{◌≡◌, ◌≤◌, ◌↔◌, [], length, IsOk, IfOk, IsOkUnless};
+ghost use Rattle.std.specs.Prelude.{◌≡◌, ◌≤◌, ◌↔◌, ℕ, List, [], length, IsOk, IfOk, IsOkUnless};
 ghost use Rattle.key_derivation.specs.Hkdf.{hkdf_expand_label};
+ghost use Rattle.key_derivation.specs.HmacState.{IsExpander};
 ghost use Rattle.key_derivation.specs.Quic.{client_initial_secret, endpoint_secret, header_key_label, initial_salt, iv_label, key_label, next_quic_secret, numbered_version, quic_header_key, quic_iv, quic_key, server_initial_secret, update_label, version_number};
 ghost use Rattle.key_derivation.specs.Secret.{suite_key_len, suite_secret_len};
 
 use crate::error::DerivationError;
 use crate::hash::Hash;
 use crate::hkdf::{Expander, extract};
-use crate::keys::{AeadKeyBytes, HeaderKeyBytes, QuicKeys};
+use crate::keys::{AeadKeyBytes, HeaderKeyBytes, PacketKeys, QuicKeys};
 use crate::secret::{Secret, SecretBytes};
 use crate::suite::Suite;
 use sha2::{Sha256, Sha384};
@@ -217,6 +218,40 @@ impl QuicSecret {
         }
     }
 
+    /// Returns the key and the IV of payloads, by the first two of these labels. After a key update, they are all that changes
+    /// (RFC 9001 section 6.1).
+    pub fn packet_keys(&self) -> PacketKeys
+        ensures key { result.key ≡ quic_key self.now }
+        ensures iv { result.iv ≡ quic_iv self.now }
+        ensures key_len { length result.key ≡ suite_key_len self.now.secret.suite }
+    {
+        let version = self.version;
+        match &self.secret.inner {
+            SecretBytes::Sha256(bytes) => {
+                packet_keys(&Expander::<Sha256>::new(bytes), version, Suite::Aes128Gcm)
+            }
+            SecretBytes::Sha384(bytes) => {
+                packet_keys(&Expander::<Sha384>::new(bytes), version, Suite::Aes256Gcm)
+            }
+        }
+    }
+
+    /// Returns the key that masks headers, by the last of these labels.
+    pub fn header_key(&self) -> HeaderKeyBytes
+        ensures key { result ≡ quic_header_key self.now }
+        ensures len { length result ≡ suite_key_len self.now.secret.suite }
+    {
+        let version = self.version;
+        match &self.secret.inner {
+            SecretBytes::Sha256(bytes) => {
+                header_key(&Expander::<Sha256>::new(bytes), version, Suite::Aes128Gcm)
+            }
+            SecretBytes::Sha384(bytes) => {
+                header_key(&Expander::<Sha384>::new(bytes), version, Suite::Aes256Gcm)
+            }
+        }
+    }
+
     /// Returns the secret after a key update, by the label `quic ku` of version 1 (RFC 9001 section 6.1), or `quicv2 ku` of
     /// version 2 (RFC 9369 section 3.3.2). The header key does not change at an update: it stays that of the first secret.
     pub fn next(&self) -> Self
@@ -239,14 +274,39 @@ fn derive_keys<H: Hash>(version: Version, secret: &[u8], suite: Suite) -> QuicKe
     ensures header_key_len { length result.header_key ≡ suite_key_len suite }
 {
     let from = Expander::<H>::new(secret);
+    let PacketKeys { key, iv } = packet_keys(&from, version, suite);
+    let header_key = header_key(&from, version, suite);
     QuicKeys {
+        key,
+        iv,
+        header_key,
+    }
+}
+
+/// Returns the key and the IV of payloads for a suite.
+fn packet_keys<H: Hash>(from: &Expander<H>, version: Version, suite: Suite) -> PacketKeys
+    ensures key { (secret : List ℕ) → IsExpander H.function H.holds secret from.now
+        → result.key ≡ hkdf_expand_label H.function secret (key_label version) [] (suite_key_len suite) }
+    ensures iv { (secret : List ℕ) → IsExpander H.function H.holds secret from.now
+        → result.iv ≡ hkdf_expand_label H.function secret (iv_label version) [] 12 }
+    ensures key_len { length result.key ≡ suite_key_len suite }
+{
+    PacketKeys {
         key: AeadKeyBytes {
             bytes: from.suite_key(version.key_label(), suite),
         },
         iv: from.labeled(version.iv_label()),
-        header_key: HeaderKeyBytes {
-            bytes: from.suite_key(version.header_key_label(), suite),
-        },
+    }
+}
+
+/// Returns the key that masks headers for a suite.
+fn header_key<H: Hash>(from: &Expander<H>, version: Version, suite: Suite) -> HeaderKeyBytes
+    ensures key { (secret : List ℕ) → IsExpander H.function H.holds secret from.now
+        → result ≡ hkdf_expand_label H.function secret (header_key_label version) [] (suite_key_len suite) }
+    ensures len { length result ≡ suite_key_len suite }
+{
+    HeaderKeyBytes {
+        bytes: from.suite_key(version.header_key_label(), suite),
     }
 }
 

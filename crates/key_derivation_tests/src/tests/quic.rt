@@ -23,6 +23,10 @@ fn is_row(rt: &(impl Abort + AllocGlobal), secret: &QuicSecret, row: &Row) {
     same(rt, keys.key.as_slice(), row.key, row.name);
     same(rt, &keys.iv, row.iv, row.name);
     same(rt, keys.header_key.as_slice(), row.header_key, row.name);
+    let packet_keys = secret.packet_keys();
+    same(rt, packet_keys.key.as_slice(), row.key, row.name);
+    same(rt, &packet_keys.iv, row.iv, row.name);
+    same(rt, secret.header_key().as_slice(), row.header_key, row.name);
     if let Some(next) = row.next {
         same(rt, secret.next().as_slice(), next, row.name);
     }
@@ -229,4 +233,5 @@ fn no_byte_is_printed(rt: HostRuntime) {
     let keys = secret.keys();
     prints(&rt, &keys, "QuicKeys { .. }");
     prints(&rt, &keys.header_key, "HeaderKeyBytes { .. }");
+    prints(&rt, &secret.packet_keys(), "PacketKeys { .. }");
 }
