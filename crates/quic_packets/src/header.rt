@@ -7,7 +7,7 @@ ghost use Rattle.quic_packets.specs.Header.{HasMaskedBytes, HasSample, MaskedPar
 
 use crate::first_byte::{LONG_MASKED_BITS, NUMBER_LEN_BITS, SHORT_MASKED_BITS, is_long};
 use crate::key_error::KeyError;
-use crate::keys::keys_of;
+use crate::keys::header_key;
 use crate::mask_error::MaskError;
 use aead_ciphers::aead::quic::Algorithm;
 use aead_ciphers_wide::aead::quic::HeaderProtectionKey;
@@ -52,11 +52,11 @@ impl HeaderKey {
     }
 
     /// Creates the header protection key of a secret (RFC 9001 section 5.1).
+    #[tactic(auto, unfolding(crate::specs::Keys::secret_header_key))]
     pub fn from_secret(secret: &QuicSecret) -> Self
         ensures { result ≡ secret_header_key secret.now }
     {
-        let (_, key) = keys_of(secret);
-        key
+        header_key(secret.suite(), secret.header_key().as_slice())
     }
 
     /// Masks the first byte of a header and its packet number, by a sample of the sealed packet (RFC 9001 section 5.4.1).

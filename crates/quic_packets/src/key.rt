@@ -10,7 +10,7 @@ ghost use Rattle.quic_packets.specs.Keys.{secret_key};
 ghost use Rattle.quic_packets.specs.Packet.{EndsWithTag, IsGenuine, IsNumber};
 
 use crate::key_error::KeyError;
-use crate::keys::keys_of;
+use crate::keys::packet_key;
 use crate::packet::{NUMBERS_END, payload_len};
 use crate::receive_error::ReceiveError;
 use crate::send_error::SendError;
@@ -69,11 +69,12 @@ impl PacketKey {
     }
 
     /// Creates the key of a secret, with its IV (RFC 9001 section 5.1).
+    #[tactic(auto, unfolding(crate::specs::Keys::secret_key))]
     pub fn from_secret(secret: &QuicSecret) -> Self
         ensures { result ≡ secret_key secret.now }
     {
-        let (key, _) = keys_of(secret);
-        key
+        let keys = secret.packet_keys();
+        packet_key(secret.suite(), keys.key.as_slice(), keys.iv)
     }
 
     /// Returns the key's algorithm.

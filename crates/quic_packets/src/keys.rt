@@ -1,12 +1,14 @@
 //! The keys of one direction: those that the caller derives, and those of a secret.
 
-ghost use Rattle.std.specs.Prelude.{◌≡◌};
-ghost use Rattle.quic_packets.specs.Keys.{secret_header_key, secret_key};
+ghost use Rattle.std.specs.Prelude.{◌≡◌, length};
+ghost use Rattle.key_derivation.specs.Secret.{suite_key_len};
+ghost use Rattle.quic_packets.specs.Keys.{header_key, packet_key, secret_header_key, secret_key};
 
 use crate::header::HeaderKey;
 use crate::key::PacketKey;
 use crate::suite::{algorithm, header_algorithm};
 use aead_ciphers::aead::NONCE_LEN;
+use key_derivation::Suite;
 use key_derivation::quic::{QuicSecret, Version};
 
 /// The keys of one direction that the caller derives, by their names (RFC 9001 section 5.1, RFC 9369 section 3.3.2).
@@ -30,11 +32,30 @@ pub(crate) fn keys_of(secret: &QuicSecret) -> (PacketKey, HeaderKey)
 {
     let suite = secret.suite();
     let keys = secret.keys();
-    let Ok(packet) = PacketKey::new(algorithm(suite), keys.key.as_slice(), keys.iv) else {
+    (
+        packet_key(suite, keys.key.as_slice(), keys.iv),
+        header_key(suite, keys.header_key.as_slice()),
+    )
+}
+
+/// The packet key of a suite with these bytes.
+pub(crate) fn packet_key(suite: Suite, key: &[u8], iv: [u8; NONCE_LEN]) -> PacketKey
+    requires { length key.now ≡ suite_key_len suite }
+    ensures { result ≡ packet_key suite key.now iv }
+{
+    let Ok(key) = PacketKey::new(algorithm(suite), key, iv) else {
         unreachable!();
     };
-    let Ok(header) = HeaderKey::new(header_algorithm(suite), keys.header_key.as_slice()) else {
+    key
+}
+
+/// The header key of a suite with these bytes.
+pub(crate) fn header_key(suite: Suite, key: &[u8]) -> HeaderKey
+    requires { length key.now ≡ suite_key_len suite }
+    ensures { result ≡ header_key suite key.now }
+{
+    let Ok(key) = HeaderKey::new(header_algorithm(suite), key) else {
         unreachable!();
     };
-    (packet, header)
+    key
 }
