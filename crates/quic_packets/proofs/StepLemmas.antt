@@ -7,6 +7,8 @@ use Rattle.quic_packets.specs.Header.{HasSample}
 use Rattle.quic_packets.specs.Receiving.{Outcome, Reads, Receiver, is_of_opened}
 use Rattle.quic_packets.specs.declared.connection.incoming.Incoming.{Incoming}
 use Rattle.quic_packets.specs.declared.connection.incoming.Incoming.TheVariants.{Packet as PacketOf, NoKeys, Dropped, Ignored}
+use Rattle.quic_packets.specs.declared.connection.incoming.Opened.{Opened}
+use Rattle.quic_packets.specs.declared.connection.incoming.PeerUpdate.{PeerUpdate}
 use Rattle.quic_packets.specs.declared.connection.incoming.Step.{Step}
 use Rattle.quic_packets.specs.declared.datagram.Packet.{Packet}
 use Rattle.quic_packets.specs.Sending.{Sender}
@@ -20,37 +22,38 @@ use Rattle.quic_packets.specs.declared.receiver.Received.{Received}
 
 -- a fact about the step, by what the receiver returned
 pub step_cases : (P : Result Received ReceiveError → Result Step ReceiveError → Type 0) (next : ℕ) (goes_on : Bool) (t : PacketType)
-    (o : Result Received ReceiveError) → ((r : Received) → P (Ok r) (Ok (record { next = next; incoming = PacketOf t r })))
+    (u : Option PeerUpdate) (o : Result Received ReceiveError)
+    → ((r : Received) → P (Ok r) (Ok (record { next = next; incoming = PacketOf t r u })))
     → ((e : ReceiveError) → P (Err e) (Err e))
     → ((e : ReceiveError) → P (Err e) (Ok (record { next = next; incoming = Dropped e })))
-    → P o (step_of next (incoming_of goes_on t o))
-step_cases P next goes_on t (Ok r) received closed dropped = received r
-step_cases P next goes_on t (Err e) received closed dropped =
+    → P o (step_of next (incoming_of goes_on t u o))
+step_cases P next goes_on t u (Ok r) received closed dropped = received r
+step_cases P next goes_on t u (Err e) received closed dropped =
     elim goes_on as (λ b. P (Err e) (step_of next (if b then Ok (Dropped e) else Err e))) [
       | true ↦ dropped e
       | false ↦ closed e
     ]
 
-pub opened_is : (next : ℕ) (goes_on : Bool) (t : PacketType) (o : Result Received ReceiveError)
-    → opened_of (step_of next (incoming_of goes_on t o)) ≡ Some o
-opened_is next goes_on t o = step_cases (λ o step. opened_of step ≡ Some o) next goes_on t o (λ r. refl) (λ e. refl) (λ e. refl)
+pub opened_is : (next : ℕ) (goes_on : Bool) (t : PacketType) (u : Option PeerUpdate) (o : Result Received ReceiveError)
+    → opened_of (step_of next (incoming_of goes_on t u o)) ≡ Some o
+opened_is next goes_on t u o = step_cases (λ o step. opened_of step ≡ Some o) next goes_on t u o (λ r. refl) (λ e. refl) (λ e. refl)
 
 -- a packet that was tried isn't ignored
-pub not_ignored : (next : ℕ) (goes_on : Bool) (t : PacketType) (o : Result Received ReceiveError)
-    → IsGiven (step_of next (incoming_of goes_on t o)) Ignored → ⊥
-not_ignored next goes_on t o =
-    step_cases (λ o step. IsGiven step Ignored → ⊥) next goes_on t o (λ r is. absurd cc) (λ e is. absurd is) (λ e is. absurd cc)
+pub not_ignored : (next : ℕ) (goes_on : Bool) (t : PacketType) (u : Option PeerUpdate) (o : Result Received ReceiveError)
+    → IsGiven (step_of next (incoming_of goes_on t u o)) Ignored → ⊥
+not_ignored next goes_on t u o =
+    step_cases (λ o step. IsGiven step Ignored → ⊥) next goes_on t u o (λ r is. absurd cc) (λ e is. absurd is) (λ e is. absurd cc)
 
 -- an error that closes the connection has a code
 abbrev HasCode : Result Step ReceiveError → Type 0
 HasCode result = IfErr result (λ error. IsSome (receive_error_code error))
 
 -- then an error without a code drops the packet
-pub dropped_as : (next : ℕ) (goes_on : Bool) (t : PacketType) (o : Result Received ReceiveError) (error : ReceiveError)
-    → is_some (receive_error_code error) ≡ false → HasCode (step_of next (incoming_of goes_on t o))
-    → IsGiven (step_of next (incoming_of goes_on t o)) (Dropped error) ↔ IsErrOf o error
-dropped_as next goes_on t o error none =
-    step_cases (λ o step. HasCode step → IsGiven step (Dropped error) ↔ IsErrOf o error) next goes_on t o
+pub dropped_as : (next : ℕ) (goes_on : Bool) (t : PacketType) (u : Option PeerUpdate) (o : Result Received ReceiveError)
+    (error : ReceiveError) → is_some (receive_error_code error) ≡ false → HasCode (step_of next (incoming_of goes_on t u o))
+    → IsGiven (step_of next (incoming_of goes_on t u o)) (Dropped error) ↔ IsErrOf o error
+dropped_as next goes_on t u o error none =
+    step_cases (λ o step. HasCode step → IsGiven step (Dropped error) ↔ IsErrOf o error) next goes_on t u o
     (λ r codes. (λ is. absurd cc, λ is. absurd cc))
     (λ e codes. (let some : is_some (receive_error_code e) ≡ true = codes in
     (λ is. absurd is, λ is. (let same : e ≡ error = cc in absurd cc))))
@@ -112,12 +115,18 @@ module _ (c : Connection) (id_len : ℕ) (id datagram : List ℕ) (at : ℕ) (pa
     past_keyless own none = past (NoKeys parts.packet_type) (inr (parts, record { parsed = parsed; own = own }, refl, none))
 
   -- what a receiver has tried
-  module _ (c' : Connection) (new : List ℕ) (o : Result Received ReceiveError) (result : Result Step ReceiveError)
+  module _ (c' : Connection) (new : List ℕ) (opened : Opened) (result : Result Step ReceiveError)
       (within : parts.end ≤ length datagram) (goes_on : Bool)
-      (stepped : result ≡ step_of parts.end (incoming_of goes_on parts.packet_type o)) (codes : HasCode result)
+      (stepped : result ≡ step_of parts.end (incoming_of goes_on parts.packet_type opened.update opened.outcome)) (codes : HasCode result)
       (some : IsSome (receiver_of c' parts.packet_type))
-      (tried : IfSome (receiver_of c parts.packet_type) (λ r. IfSome (receiver_of c' parts.packet_type) (λ r'.
-      IsTried r (space_of c parts.packet_type) c.failures parts datagram o r' (space_of c' parts.packet_type) c'.failures new))) where
+      (tried : IfSome (receiver_of c parts.packet_type) (λ r. IfSome (receiver_of c' parts.packet_type) (λ r'. IsTried r
+      (space_of c parts.packet_type) c.failures parts datagram opened.outcome r' (space_of c' parts.packet_type) c'.failures new))) where
+    abbrev o : Result Received ReceiveError
+    o = opened.outcome
+
+    abbrev u : Option PeerUpdate
+    u = opened.update
+
     abbrev Tried : Receiver → Receiver → Type 0
     Tried r r' = IsTried r (space_of c parts.packet_type) c.failures parts datagram o r' (space_of c' parts.packet_type) c'.failures new
 
@@ -132,7 +141,7 @@ module _ (c : Connection) (id_len : ℕ) (id datagram : List ℕ) (at : ℕ) (pa
     other_version p r opening =
         let same = same_parts p opening.packet in
         let it = its p r opening in
-        let is = dropped_as parts.end goes_on parts.packet_type o OtherVersionError refl (subst HasCode stepped codes) in
+        let is = dropped_as parts.end goes_on parts.packet_type u o OtherVersionError refl (subst HasCode stepped codes) in
         subst (λ q. IsGiven result (Dropped OtherVersionError) ↔ IsTrue (is_other_version r.version q.version)) (sym same)
         (subst (λ step. IsGiven step (Dropped OtherVersionError) ↔ IsTrue (is_other_version r.version parts.version)) (sym stepped) (
           λ given. (let d = it.other_version.0 (is.0 given) in d.2),
@@ -145,7 +154,7 @@ module _ (c : Connection) (id_len : ℕ) (id datagram : List ℕ) (at : ℕ) (pa
     sampled p r opening =
         let same = same_parts p opening.packet in
         let it = its p r opening in
-        let is = dropped_as parts.end goes_on parts.packet_type o NoSample refl (subst HasCode stepped codes) in
+        let is = dropped_as parts.end goes_on parts.packet_type u o NoSample refl (subst HasCode stepped codes) in
         subst (λ q. IsGiven result (Dropped NoSample)
         ↔ (IsFalse (is_other_version r.version q.version) × (0 < number_in q) × (q.end - q.start < number_in q + 20))) (sym same)
         (subst (λ step. IsGiven step (Dropped NoSample)
@@ -171,7 +180,7 @@ module _ (c : Connection) (id_len : ℕ) (id datagram : List ℕ) (at : ℕ) (pa
         let has : HasSample (number_in parts) (parts.end - parts.start) = subst (λ q. HasSample (number_in q) (q.end - q.start)) same sample in
         let of_it : IsFalse (is_other_version r.version parts.version) = subst (λ q. IsFalse (is_other_version r.version q.version)) same own in
         subst (λ q. IfSome (opened_of result) (Becomes r q)) (sym same)
-        (subst (λ opened. IfSome opened (Becomes r parts)) (sym (ap opened_of stepped ∙ opened_is parts.end goes_on parts.packet_type o))
+        (subst (λ opened. IfSome opened (Becomes r parts)) (sym (ap opened_of stepped ∙ opened_is parts.end goes_on parts.packet_type u o))
         (it.outcome opening.receiving within of_it has))
 
     module _ (held : IsSome (receiver_of c parts.packet_type)) where
@@ -183,12 +192,12 @@ module _ (c : Connection) (id_len : ℕ) (id datagram : List ℕ) (at : ℕ) (pa
 
       pub not_failed : (IsGiven result (Dropped Refused) → ⊥) → c'.failures ≡ c.failures
       not_failed other =
-          let is = dropped_as parts.end goes_on parts.packet_type o Refused refl (subst HasCode stepped codes) in
+          let is = dropped_as parts.end goes_on parts.packet_type u o Refused refl (subst HasCode stepped codes) in
           at_it.not_failed (λ refused. other (subst (λ step. IsGiven step (Dropped Refused)) (sym stepped) (is.1 refused)))
 
       pub failed : IsGiven result (Dropped Refused) → c'.failures ≡ record c.failures { count = c.failures.count + 1 }
       failed given =
-          let is = dropped_as parts.end goes_on parts.packet_type o Refused refl (subst HasCode stepped codes) in
+          let is = dropped_as parts.end goes_on parts.packet_type u o Refused refl (subst HasCode stepped codes) in
           at_it.failed (is.0 (subst (λ step. IsGiven step (Dropped Refused)) stepped given))
 
       abbrev after : PacketType → Connection
@@ -198,7 +207,7 @@ module _ (c : Connection) (id_len : ℕ) (id datagram : List ℕ) (at : ℕ) (pa
       is_received but =
           subst (λ step. IfPacket step (λ t r. c' ≡ after t)) (sym stepped)
           (step_cases (λ o step. ((IsErrOf o Refused → ⊥) → c'.failures ≡ c.failures) → IfPacket step (λ t r. c' ≡ after t))
-          parts.end goes_on parts.packet_type o
+          parts.end goes_on parts.packet_type u o
           (λ r same. but ∙ ap (λ f. record (after parts.packet_type) { failures = f }) (same (λ refused. absurd cc))
           ∙ its_failures parts.packet_type (receiver_of c' parts.packet_type) (space_of c' parts.packet_type) c'.one_rtt.sender)
           (λ e same. tt) (λ e same. tt) at_it.not_failed)
@@ -206,7 +215,7 @@ module _ (c : Connection) (id_len : ℕ) (id datagram : List ℕ) (at : ℕ) (pa
       pub bytes_kept : is_opened (opened_of result) ≡ false → new ≡ datagram
       bytes_kept unopened =
           let it : is_opened (Some o) ≡ false =
-          subst (λ x. is_opened x ≡ false) (ap opened_of stepped ∙ opened_is parts.end goes_on parts.packet_type o) unopened in
+          subst (λ x. is_opened x ≡ false) (ap opened_of stepped ∙ opened_is parts.end goes_on parts.packet_type u o) unopened in
           same_bytes o at_it.bytes_kept it
         where
           same_bytes : (o : Result Received ReceiveError) → IfErr o (λ error. is_of_opened error ≡ false → new ≡ datagram)
@@ -224,7 +233,7 @@ module _ (c : Connection) (id_len : ℕ) (id datagram : List ℕ) (at : ℕ) (pa
       kept but =
           subst (λ step. OnErr step (c' ≡ c)) (sym stepped)
           (step_cases (λ o step. HasCode step → ((IsErrOf o Refused → ⊥) → c'.failures ≡ c.failures)
-          → OnErr o (c' ≡ record c { failures = c'.failures }) → OnErr step (c' ≡ c)) parts.end goes_on parts.packet_type o
+          → OnErr o (c' ≡ record c { failures = c'.failures }) → OnErr step (c' ≡ c)) parts.end goes_on parts.packet_type u o
           (λ r codes same but. tt)
           (λ e codes same but. (let some : is_some (receive_error_code e) ≡ true = codes in
           but ∙ ap (λ f. record c { failures = f }) (same (λ refused. absurd cc))))

@@ -2,7 +2,7 @@
 -- sections 4.9, 5.7 and 6).
 use Rattle.std.specs.Prelude.{◌≡◌, ℕ, ◌+◌, ◌-◌, ◌<◌, ◌≤◌, ◌↔◌, ◌⊎◌, Bool, true, false, IsFalse, IsTrue, if◌then◌else◌, List, length, slice_range, Option, None, Some, IsSome, IfSome, Result, Ok, Err, IsOkAnd, IfOk, IfErr, IsErrOf, OnErr}
 use Rattle.quic_packets.specs.Datagram.{KeepsOutside, bytes_of, next_after, number_in, packet_of}
-use Rattle.quic_packets.specs.Ends.{Ends, following, kept_back, phase_of, renewed, sent, with_next_key}
+use Rattle.quic_packets.specs.Ends.{Ends, following, kept_back, peer_update, phase_of, renewed, renews, sent, with_next_key}
 use Rattle.quic_packets.specs.Failures.{Failures}
 use Rattle.quic_packets.specs.Header.{HasSample}
 use Rattle.quic_packets.specs.Receiving.{Outcome, Reads, Receiver, is_of_opened}
@@ -13,6 +13,7 @@ use Rattle.quic_packets.specs.declared.connection.Level.{Level}
 use Rattle.quic_packets.specs.declared.connection.Level.TheVariants.{Initial as InitialLevel, Handshake as HandshakeLevel, OneRtt as OneRttLevel}
 use Rattle.quic_packets.specs.declared.connection.incoming.Incoming.{Incoming}
 use Rattle.quic_packets.specs.declared.connection.incoming.Incoming.TheVariants.{Packet as PacketOf, NoKeys, Dropped, Ignored}
+use Rattle.quic_packets.specs.declared.connection.incoming.PeerUpdate.{PeerUpdate}
 use Rattle.quic_packets.specs.declared.connection.incoming.Step.{Step}
 use Rattle.quic_packets.specs.declared.datagram.DatagramError.{DatagramError}
 use Rattle.quic_packets.specs.declared.datagram.Packet.{Packet}
@@ -59,6 +60,11 @@ abbrev pub after_sending : Level → Ends → Sender → Ends
 after_sending OneRttLevel e s = with_next_key (renewed (sent e s))
 after_sending _ e s = sent e s
 
+-- a key update follows the packet that a sender has sent at a level: a 1-RTT packet, if one is due then and may be initiated
+abbrev pub updates_after : Level → Ends → Sender → Bool
+updates_after OneRttLevel e s = renews (sent e s)
+updates_after _ e s = false
+
 -- The packets of a type: the receiver that opens them, if it is there, and the space of their numbers (RFC 9000 section 12.3).
 
 abbrev pub has_keys : PacketType → Bool
@@ -92,6 +98,11 @@ with_receiver c _ r s = c
 abbrev pub sender_after : PacketType → Ends → Option Receiver → Option Sender
 sender_after OneRtt e r = following e.sender (phase_of e.receiver) (phase_of r)
 sender_after _ e r = e.sender
+
+-- the key update of the peer that a packet of this type shows, which left the receiver of 1-RTT packets so
+abbrev pub update_after : PacketType → Ends → Option Receiver → Option PeerUpdate
+update_after OneRtt e r = peer_update e.sender (phase_of e.receiver) (phase_of r)
+update_after _ e r = None
 
 -- the connection with another sender of 1-RTT packets
 abbrev pub with_sender : Connection → Option Sender → Connection
@@ -156,20 +167,30 @@ IsGiven result incoming = IsOkAnd result (λ step. step.incoming ≡ incoming)
 
 -- the type of a packet that is returned, and what was received
 abbrev pub packet_in : Incoming → Option (PacketType × Received)
-packet_in (PacketOf packet_type received) = Some (packet_type, received)
+packet_in (PacketOf packet_type received update) = Some (packet_type, received)
 packet_in _ = None
+
+-- the key update of the peer that is returned with it
+abbrev pub update_in : Incoming → Option PeerUpdate
+update_in (PacketOf packet_type received update) = update
+update_in _ = None
+
+abbrev pub update_of : Result Step ReceiveError → Option PeerUpdate
+update_of (Ok step) = update_in step.incoming
+update_of (Err error) = None
 
 -- the packet that is returned fulfils this
 abbrev pub IfPacket : Result Step ReceiveError → (PacketType → Received → Type 0) → Type 0
 IfPacket result P = IfOk result (λ step. IfSome (packet_in step.incoming) (λ p. P p.0 p.1))
 
--- what the receiver returned: after an error, either the packet is dropped and the connection goes on, or it is closed
-abbrev pub incoming_of : (goes_on : Bool) → PacketType → Result Received ReceiveError → Result Incoming ReceiveError
-incoming_of goes_on packet_type (Ok received) = Ok (PacketOf packet_type received)
-incoming_of goes_on packet_type (Err error) = if goes_on then Ok (Dropped error) else Err error
+-- what the receiver returned, with a key update of the peer: after an error, either the packet is dropped and the connection goes on,
+-- or it is closed
+abbrev pub incoming_of : (goes_on : Bool) → PacketType → Option PeerUpdate → Result Received ReceiveError → Result Incoming ReceiveError
+incoming_of goes_on packet_type update (Ok received) = Ok (PacketOf packet_type received update)
+incoming_of goes_on packet_type update (Err error) = if goes_on then Ok (Dropped error) else Err error
 
 abbrev pub opened_as : Incoming → Option (Result Received ReceiveError)
-opened_as (PacketOf packet_type received) = Some (Ok received)
+opened_as (PacketOf packet_type received update) = Some (Ok received)
 opened_as (Dropped error) = Some (Err error)
 opened_as _ = None
 

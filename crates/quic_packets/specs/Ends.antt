@@ -11,6 +11,9 @@ use Rattle.quic_packets.specs.Receiving.{Receiver, with_next}
 use Rattle.quic_packets.specs.Sending.{IsEncodable, IsRoom, IsSealable, Sender, after_derived_update, after_send, header_version, is_retry_or_version_negotiation, new_sender, with_installed_keys}
 use Rattle.quic_packets.specs.Space.{Space, new_space}
 use Rattle.quic_packets.specs.Versions.{is_other_version}
+use Rattle.quic_packets.specs.declared.connection.ends.SentPacket.{SentPacket}
+use Rattle.quic_packets.specs.declared.connection.incoming.PeerUpdate.{PeerUpdate}
+use Rattle.quic_packets.specs.declared.connection.incoming.PeerUpdate.TheVariants.{Initiated, Answered}
 use Rattle.quic_packets.specs.declared.send_error.SendError.{SendError}
 use Rattle.quic_packets.specs.declared.send_error.SendError.TheVariants.{EmptyPayload, NoFixedBit, NoProtection, NoSample, NumberAtFirstByte, NumberLength, NumberTooFar, NumbersEnded, OtherVersion, TooLong, TooShort}
 use Rattle.quic_packets.specs.declared.fixed_bit.FixedBit.{FixedBit}
@@ -114,6 +117,16 @@ in_phase (Some s) phase = if differ s.phase phase then Some (updated_by s s.secr
 abbrev pub following : Option Sender → (was now : Bool) → Option Sender
 following sender was now = if differ was now then in_phase sender now else sender
 
+-- The key update by which the peer has entered a phase that this end's sender is in or not: it answers one that this end has initiated
+-- if the sender is in that phase, and has initiated one otherwise (RFC 9001 sections 6.1 and 6.2).
+abbrev pub update_into : Option Sender → (phase : Bool) → PeerUpdate
+update_into None phase = Initiated
+update_into (Some s) phase = if differ s.phase phase then Initiated else Answered
+
+-- the key update that the packet shows by which the receiver's phase changes. It is the first packet that the next key opens.
+abbrev pub peer_update : Option Sender → (was now : Bool) → Option PeerUpdate
+peer_update sender was now = if differ was now then Some (update_into sender now) else None
+
 -- Sending.
 
 -- how many packets the key may still seal (RFC 9001 section 6.6)
@@ -129,9 +142,17 @@ is_due (Some s) = nat_lt (left s) (2 ^ 16) && nat_lt (2 * left s) s.limit
 abbrev pub sent : Ends → Sender → Ends
 sent e s = record e { sender = Some (after_send s) }
 
+-- what is returned of the next packet of a sender once it is sent, which a key update has followed or not
+abbrev pub sent_as : Sender → (keys_updated : Bool) → SentPacket
+sent_as s keys_updated = record { number = s.next; keys_updated = keys_updated }
+
+-- a key update is due, and may be initiated
+abbrev pub renews : Ends → Bool
+renews e = may_update e && is_due e.sender
+
 -- the level with a key update, if one is due and may be initiated
 abbrev pub renewed : Ends → Ends
-renewed e = if may_update e && is_due e.sender then initiated e else e
+renewed e = if renews e then initiated e else e
 
 -- the level with the next key of its receiver
 abbrev pub with_next_key : Ends → Ends
@@ -139,7 +160,7 @@ with_next_key e = record e { receiver = prepared e.receiver }
 
 -- When a packet with this room for its number isn't sent, while its key isn't used up: the packet can't be sealed and protected,
 -- no number is left, or the room doesn't fit the number.
-pub record Refuses (s : Sender) (fixed_bit : FixedBit) (start end : ℕ) (packet : List ℕ) (result : Result ℕ SendError)
+pub record Refuses (s : Sender) (fixed_bit : FixedBit) (start end : ℕ) (packet : List ℕ) (result : Result SentPacket SendError)
     : Type 0 where
   pub too_short : IsErrOf result TooShort ↔ (length packet < end + 16)
   pub too_long : IsErrOf result TooLong ↔ ((end + 16 ≤ length packet) × ¬ Fits end (length packet - 16 - end))

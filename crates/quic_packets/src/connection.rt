@@ -6,9 +6,9 @@
 
 ghost use Rattle.std.specs.Prelude.{◌≡◌, ℕ, List, ◌+◌, ◌-◌, ◌^◌, ◌<◌, ◌≤◌, ◌↔◌, ◌⊎◌, ◌&&◌, false, true, min, length, slice_index, if◌then◌else◌, Some, None, IsFalse, IsTrue, IsSome, IfSome, IsOk, IfOk, IfErr, IsErrOf, OnOk, OnErr, unwrap_or, is_some};
 ghost use Rattle.std.specs.Option.{option_copied};
-ghost use Rattle.quic_packets.specs.Connection.{IfPacket, IsGiven, IsOpening, IsOwn, IsPacketAt, IsReceiving, IsToOpen, IsTried, IsUnopened, end_of, ends_of, has_keys, after_sending, kept_at, is_one_rtt, is_opened, opened_of, packet_in, receiver_of, sender_after, space_of, with_ends, with_receiver, with_sender};
+ghost use Rattle.quic_packets.specs.Connection.{IfPacket, IsGiven, IsOpening, IsOwn, IsPacketAt, IsReceiving, IsToOpen, IsTried, IsUnopened, end_of, ends_of, has_keys, after_sending, kept_at, is_one_rtt, is_opened, opened_of, packet_in, receiver_of, sender_after, space_of, update_after, update_of, updates_after, with_ends, with_receiver, with_sender};
 ghost use Rattle.quic_packets.specs.Datagram.{bytes_of, number_in, packet_of};
-ghost use Rattle.quic_packets.specs.Ends.{Refuses, confirmed, forgotten, initiated, installed, is_confirmed, left, may_update, no_ends, prepared, sent};
+ghost use Rattle.quic_packets.specs.Ends.{Refuses, confirmed, forgotten, initiated, installed, is_confirmed, left, may_update, no_ends, prepared, sent, sent_as};
 ghost use Rattle.quic_packets.specs.Errors.{receive_error_code};
 ghost use Rattle.quic_packets.specs.Header.{HasSample};
 ghost use Rattle.quic_packets.specs.Keys.{secret_header_key, secret_key};
@@ -32,8 +32,9 @@ use crate::send_error::SendError;
 use crate::sender::{CONFIDENTIALITY_LIMIT, Sender};
 use crate::space::Space;
 use ends::Ends;
-use incoming::step_of;
-pub use incoming::{Incoming, Step};
+pub use ends::SentPacket;
+pub use incoming::{Incoming, PeerUpdate, Step};
+use incoming::{Opened, step_of};
 use key_derivation::quic::QuicSecret;
 use std::marker::Model;
 use std::ops::Range;
@@ -283,8 +284,8 @@ impl Connection {
         }
     }
 
-    /// Sends a packet of a level, as `Sender::send` does, and returns its number. The packet is the header, which ends with room
-    /// for the number, the payload, and 16 bytes for the tag. Its fixed bit is 1.
+    /// Sends a packet of a level, as `Sender::send` does, and returns its number and whether a key update followed it. The packet is
+    /// the header, which ends with room for the number, the payload, and 16 bytes for the tag. Its fixed bit is 1.
     ///
     /// After a 1-RTT packet, the keys are updated where they may be (see `update_keys`) once fewer than 2^16 packets are left to
     /// the key, or fewer than half of a lower limit; and the receiver's next key is set, since the packet may bring the
@@ -298,7 +299,7 @@ impl Connection {
         level: Level,
         packet: &mut [u8],
         number: Range<usize>,
-    ) -> Result<u64, SendError>
+    ) -> Result<SentPacket, SendError>
         ensures no_keys { IsErrOf result SendError.NoKeys ↔ ¬ IsSome (ends_of self.old level).sender }
         ensures used_up { IfSome (ends_of self.old level).sender (λ s. IsErrOf result SendError.KeyUsedUp
             ↔ (left s ≤ kept_at self.old level)) }
@@ -308,7 +309,8 @@ impl Connection {
             → Refuses s Required number.start number.end packet.old result) }
         ensures sent { IfSome (ends_of self.old level).sender (λ s. OnOk result
             (IsSent s number.start number.end packet.old packet.new)) }
-        ensures number { IfSome (ends_of self.old level).sender (λ s. IfOk result (λ n. n ≡ s.next)) }
+        ensures number { IfSome (ends_of self.old level).sender (λ s. IfOk result (λ p. p
+            ≡ sent_as s (updates_after level (ends_of self.old level) s))) }
         ensures counted { IfSome (ends_of self.old level).sender (λ s. OnOk result
             (self.new ≡ with_ends self.old level (after_sending level (ends_of self.old level) s))) }
         ensures kept { OnErr result ((packet.new ≡ packet.old) × (self.new ≡ self.old)) }
@@ -329,7 +331,7 @@ impl Connection {
         level: Level,
         packet: &mut [u8],
         number: Range<usize>,
-    ) -> Result<u64, SendError>
+    ) -> Result<SentPacket, SendError>
         ensures no_keys { IsErrOf result SendError.NoKeys ↔ ¬ IsSome (ends_of self.old level).sender }
         ensures used_up { IfSome (ends_of self.old level).sender (λ s. IsErrOf result SendError.KeyUsedUp ↔ (left s ≤ 0)) }
         ensures accepted { IfSome (ends_of self.old level).sender (λ s. IsOk result ↔ ((0 < left s)
@@ -338,7 +340,7 @@ impl Connection {
             → Refuses s Required number.start number.end packet.old result) }
         ensures sent { IfSome (ends_of self.old level).sender (λ s. OnOk result
             (IsSent s number.start number.end packet.old packet.new)) }
-        ensures number { IfSome (ends_of self.old level).sender (λ s. IfOk result (λ n. n ≡ s.next)) }
+        ensures number { IfSome (ends_of self.old level).sender (λ s. IfOk result (λ p. p ≡ sent_as s false)) }
         ensures counted { IfSome (ends_of self.old level).sender (λ s. OnOk result
             (self.new ≡ with_ends self.old level (sent (ends_of self.old level) s))) }
         ensures kept { OnErr result ((packet.new ≡ packet.old) × (self.new ≡ self.old)) }
@@ -361,7 +363,7 @@ impl Connection {
     /// one for which `Receiver::receive` fails with an error that has no code, such as `Refused` or `Duplicate`.
     ///
     /// A key update of the peer is followed before the call returns, so before anything of the packet is acknowledged (RFC 9001
-    /// section 6.2).
+    /// section 6.2), and `Incoming::Packet` has it.
     ///
     /// Fails with `TooManyFailures` once the limit on packets that fail authentication is reached, whatever the packet (section
     /// 6.6); and for an authentic packet with `ReservedBits`, `KeyUpdate` and `NoFrames`, as `Receiver::receive` does. The
@@ -408,6 +410,8 @@ impl Connection {
             ≡ with_sender (with_receiver self.old packet_type (receiver_of self.new packet_type) (space_of self.new packet_type))
             self.new.one_rtt.sender) }
         ensures receiver { IfPacket result (λ packet_type _. IsSome (receiver_of self.new packet_type)) }
+        ensures update { IfPacket result (λ packet_type _. update_of result
+            ≡ update_after packet_type self.old.one_rtt self.new.one_rtt.receiver) }
         ensures failed { IsGiven result (Incoming.Dropped ReceiveError.Refused)
             → self.new.failures ≡ record self.old.failures { count = self.old.failures.count + 1 } }
         ensures not_failed { ¬ IsGiven result (Incoming.Dropped ReceiveError.Refused) → self.new.failures ≡ self.old.failures }
@@ -480,12 +484,12 @@ impl Connection {
     }
 
     /// Opens a packet with the receiver of its type.
-    fn open(&mut self, datagram: &mut [u8], parts: &Packet) -> Result<Received, ReceiveError>
+    fn open(&mut self, datagram: &mut [u8], parts: &Packet) -> Opened
         requires { IsSome (receiver_of self.old parts.now.packet_type) }
         ensures tried { IfSome (receiver_of self.old parts.now.packet_type) (λ r.
             IfSome (receiver_of self.new parts.now.packet_type) (λ r'. IsTried r (space_of self.old parts.now.packet_type)
-            self.old.failures parts.now datagram.old result r' (space_of self.new parts.now.packet_type) self.new.failures
-            datagram.new)) }
+            self.old.failures parts.now datagram.old result.outcome r' (space_of self.new parts.now.packet_type)
+            self.new.failures datagram.new)) }
         ensures some { IsSome (receiver_of self.new parts.now.packet_type) }
         ensures followed { self.new.one_rtt.sender
             ≡ sender_after parts.now.packet_type self.old.one_rtt self.new.one_rtt.receiver }
@@ -493,15 +497,22 @@ impl Connection {
             (receiver_of self.new parts.now.packet_type) (space_of self.new parts.now.packet_type)) self.new.one_rtt.sender) {
               failures = self.new.failures;
             } }
-        ensures kept { OnErr result (self.new ≡ record self.old { failures = self.new.failures }) }
+        ensures update { result.update ≡ update_after parts.now.packet_type self.old.one_rtt self.new.one_rtt.receiver }
+        ensures kept { OnErr result.outcome (self.new ≡ record self.old { failures = self.new.failures }) }
     {
         match parts.packet_type {
-            PacketType::Initial => self.initial.open(&mut self.failures, datagram, parts),
-            PacketType::Handshake => self.handshake.open(&mut self.failures, datagram, parts),
+            PacketType::Initial => {
+                let outcome = self.initial.open(&mut self.failures, datagram, parts);
+                Opened::without_phase(outcome)
+            }
+            PacketType::Handshake => {
+                let outcome = self.handshake.open(&mut self.failures, datagram, parts);
+                Opened::without_phase(outcome)
+            }
             PacketType::OneRtt => self
                 .one_rtt
                 .open_one_rtt(&mut self.failures, datagram, parts),
-            PacketType::ZeroRtt => self.open_zero_rtt(datagram, parts),
+            PacketType::ZeroRtt => Opened::without_phase(self.open_zero_rtt(datagram, parts)),
             _ => unreachable!(),
         }
     }

@@ -1,14 +1,15 @@
 //! The keys of an encryption level, for both directions, and its space of packet numbers.
 
-ghost use Rattle.std.specs.Prelude.{◌≡◌, ◌<◌, ◌≤◌, ◌↔◌, Some, None, IsFalse, IsTrue, IsSome, IfSome, IsOk, IfOk, IsErrOf, OnOk, OnErr};
+ghost use Rattle.std.specs.Prelude.{◌≡◌, ◌<◌, ◌≤◌, ◌↔◌, false, Some, None, IsFalse, IsTrue, IsSome, IfSome, IsOk, IfOk, IsErrOf, OnOk, OnErr};
 ghost use Rattle.std.specs.Option.{option_copied};
 ghost use Rattle.quic_packets.specs.Connection.{IsTried};
-ghost use Rattle.quic_packets.specs.Ends.{Refuses, confirmed, following, forgotten, in_phase, initiated, installed, is_confirmed, is_due, kept_back, left, may_update, no_ends, phase_of, renewed, sent, with_next_key};
+ghost use Rattle.quic_packets.specs.Ends.{Refuses, confirmed, following, forgotten, in_phase, initiated, installed, is_confirmed, is_due, kept_back, left, may_update, no_ends, peer_update, phase_of, renewed, renews, sent, sent_as, update_into, with_next_key};
 ghost use Rattle.quic_packets.specs.Keys.{secret_header_key, secret_key};
 ghost use Rattle.quic_packets.specs.Receiving.{new_receiver};
 ghost use Rattle.quic_packets.specs.Sending.{IsInTurn, IsSealable, IsSent, IsUnanswered, after_acknowledgement, is_unsent};
 ghost use Rattle.quic_packets.specs.declared.fixed_bit.FixedBit.TheVariants.{Required};
 
+use crate::connection::incoming::{Opened, PeerUpdate};
 use crate::datagram::Packet;
 use crate::failures::Failures;
 use crate::fixed_bit::FixedBit;
@@ -22,6 +23,15 @@ use crate::space::Space;
 use key_derivation::quic::QuicSecret;
 use std::marker::Model;
 use std::ops::Range;
+
+/// A packet that was sent.
+#[derive(Clone, Copy, PartialEq, Eq, Debug, Drop)]
+pub struct SentPacket {
+    /// The packet number.
+    pub number: u64,
+    /// Whether a key update followed the packet, so that the next one is of the next key phase (RFC 9001 section 6.1).
+    pub keys_updated: bool,
+}
 
 /// The packets that are left to a key when it is updated, unless half of its limit is fewer.
 const LEFT_AT_UPDATE: u64 = 1 << 16;
@@ -126,7 +136,7 @@ impl Ends {
         packet: &mut [u8],
         number: Range<usize>,
         kept_back: u64,
-    ) -> Result<u64, SendError>
+    ) -> Result<SentPacket, SendError>
         ensures no_keys { IsErrOf result SendError.NoKeys ↔ ¬ IsSome self.old.sender }
         ensures used_up { IfSome self.old.sender (λ s. IsErrOf result SendError.KeyUsedUp ↔ (left s ≤ kept_back)) }
         ensures accepted { IfSome self.old.sender (λ s. IsOk result ↔ ((kept_back < left s)
@@ -134,7 +144,7 @@ impl Ends {
         ensures refused { IfSome self.old.sender (λ s. kept_back < left s
             → Refuses s Required number.start number.end packet.old result) }
         ensures sent { IfSome self.old.sender (λ s. OnOk result (IsSent s number.start number.end packet.old packet.new)) }
-        ensures number { IfSome self.old.sender (λ s. IfOk result (λ n. n ≡ s.next)) }
+        ensures number { IfSome self.old.sender (λ s. IfOk result (λ p. p ≡ sent_as s false)) }
         ensures counted { IfSome self.old.sender (λ s. OnOk result (self.new ≡ sent self.old s)) }
         ensures kept { OnErr result ((packet.new ≡ packet.old) × (self.new ≡ self.old)) }
     {
@@ -144,7 +154,11 @@ impl Ends {
         if sender.limit().saturating_sub(sender.sealed()) <= kept_back {
             return Err(SendError::KeyUsedUp);
         }
-        sender.send(packet, number, FixedBit::Required)
+        let number = sender.send(packet, number, FixedBit::Required)?;
+        Ok(SentPacket {
+            number,
+            keys_updated: false,
+        })
     }
 
     /// Sends a 1-RTT packet, updates the keys if that is due, and sets the receiver's next key.
@@ -152,7 +166,7 @@ impl Ends {
         &mut self,
         packet: &mut [u8],
         number: Range<usize>,
-    ) -> Result<u64, SendError>
+    ) -> Result<SentPacket, SendError>
         ensures no_keys { IsErrOf result SendError.NoKeys ↔ ¬ IsSome self.old.sender }
         ensures used_up { IfSome self.old.sender (λ s. IsErrOf result SendError.KeyUsedUp
             ↔ (left s ≤ kept_back self.old)) }
@@ -161,15 +175,18 @@ impl Ends {
         ensures refused { IfSome self.old.sender (λ s. kept_back self.old < left s
             → Refuses s Required number.start number.end packet.old result) }
         ensures sent { IfSome self.old.sender (λ s. OnOk result (IsSent s number.start number.end packet.old packet.new)) }
-        ensures number { IfSome self.old.sender (λ s. IfOk result (λ n. n ≡ s.next)) }
+        ensures number { IfSome self.old.sender (λ s. IfOk result (λ p. p ≡ sent_as s (renews (sent self.old s)))) }
         ensures counted { IfSome self.old.sender (λ s. OnOk result (self.new ≡ with_next_key (renewed (sent self.old s)))) }
         ensures kept { OnErr result ((packet.new ≡ packet.old) × (self.new ≡ self.old)) }
     {
         let kept_back = self.kept_back();
         let sent = self.send(packet, number, kept_back)?;
-        self.renew();
+        let keys_updated = self.renew();
         self.set_next_key();
-        Ok(sent)
+        Ok(SentPacket {
+            number: sent.number,
+            keys_updated,
+        })
     }
 
     /// How many packets of a 1-RTT key are kept for the one that closes the connection.
@@ -222,13 +239,12 @@ impl Ends {
         Ok(())
     }
 
-    /// Initiates a key update if one is due and may be initiated.
-    pub(crate) fn renew(&mut self)
-        ensures { self.new ≡ renewed self.old }
+    /// Initiates a key update if one is due and may be initiated, and returns whether it has.
+    pub(crate) fn renew(&mut self) -> bool
+        ensures renewed { self.new ≡ renewed self.old }
+        ensures is { result ≡ renews self.old }
     {
-        if self.is_due() {
-            let _ = self.update_keys();
-        }
+        self.is_due() && self.update_keys().is_ok()
     }
 
     /// Records an acknowledgment.
@@ -310,21 +326,24 @@ impl Ends {
         failures: &mut Failures,
         datagram: &mut [u8],
         parts: &Packet,
-    ) -> Result<Received, ReceiveError>
+    ) -> Opened
         requires { IsSome self.old.receiver }
         ensures tried { IfSome self.old.receiver (λ r. IfSome self.new.receiver (λ r'. IsTried r self.old.space failures.old
-            parts.now datagram.old result r' self.new.space failures.new datagram.new)) }
+            parts.now datagram.old result.outcome r' self.new.space failures.new datagram.new)) }
         ensures some { IsSome self.new.receiver }
         ensures followed { self.new.sender ≡ following self.old.sender (phase_of self.old.receiver) (phase_of self.new.receiver) }
-        ensures kept { OnErr result (self.new ≡ self.old) }
+        ensures update { result.update ≡ peer_update self.old.sender (phase_of self.old.receiver) (phase_of self.new.receiver) }
+        ensures kept { OnErr result.outcome (self.new ≡ self.old) }
     {
         let before = self.receiver_phase();
-        let opened = self.open(failures, datagram, parts);
+        let outcome = self.open(failures, datagram, parts);
         let after = self.receiver_phase();
-        if before != after {
-            self.enter(after);
-        }
-        opened
+        let update = if before == after {
+            None
+        } else {
+            Some(self.enter(after))
+        };
+        Opened { outcome, update }
     }
 
     /// The receiver's key phase.
@@ -337,14 +356,17 @@ impl Ends {
         }
     }
 
-    /// Updates the sender's keys, unless it is in this phase.
-    fn enter(&mut self, phase: bool)
-        ensures { self.new ≡ record self.old { sender = in_phase self.old.sender phase } }
+    /// Updates the sender's keys, unless it is in this phase, and returns the peer's update by which the receiver has entered it.
+    fn enter(&mut self, phase: bool) -> PeerUpdate
+        ensures entered { self.new ≡ record self.old { sender = in_phase self.old.sender phase } }
+        ensures is { result ≡ update_into self.old.sender phase }
     {
         if let Some(sender) = &mut self.sender {
-            if sender.phase() != phase {
-                let _ = sender.follow_update();
+            if sender.phase() == phase {
+                return PeerUpdate::Answered;
             }
+            let _ = sender.follow_update();
         }
+        PeerUpdate::Initiated
     }
 }

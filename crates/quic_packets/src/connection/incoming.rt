@@ -17,11 +17,22 @@ pub struct Step {
     pub incoming: Incoming,
 }
 
+/// A key update of the peer, which shows in the first packet that the next keys open (RFC 9001 section 6).
+#[derive(Clone, Copy, PartialEq, Eq, Debug, Drop)]
+pub enum PeerUpdate {
+    /// The peer has initiated it, and this end's sender, if it is there, has followed it (RFC 9001 section 6.2).
+    Initiated,
+    /// The peer answers the key update that this end has initiated.
+    Answered,
+}
+
 /// What became of a packet.
 #[derive(Clone, PartialEq, Eq, Debug, Drop)]
 pub enum Incoming {
-    /// A packet of this type was received, and its payload is decrypted in the datagram.
-    Packet(PacketType, Received),
+    /// A packet of this type was received, and its payload is decrypted in the datagram. The last value is the key update of the
+    /// peer, if the packet is the first that the next keys opened. From then on the caller counts three times the probe timeout
+    /// until `Connection::forget_previous` (RFC 9001 section 6.5).
+    Packet(PacketType, Received, Option<PeerUpdate>),
     /// The keys of packets of this type are not there. Nothing has changed, so the caller may keep the packet until they are (RFC
     /// 9001 section 5.7).
     NoKeys(PacketType),
@@ -32,18 +43,37 @@ pub enum Incoming {
     Ignored,
 }
 
+/// What a receiver has returned of a packet that it tried, and the key update of the peer that the packet shows.
+#[derive(Drop)]
+pub(crate) struct Opened {
+    pub(crate) outcome: Result<Received, ReceiveError>,
+    pub(crate) update: Option<PeerUpdate>,
+}
+
+impl Opened {
+    /// What was returned of a packet without a Key Phase bit.
+    pub(crate) fn without_phase(outcome: Result<Received, ReceiveError>) -> Self
+        ensures { result ≡ record { outcome = outcome; update = None } }
+    {
+        Opened {
+            outcome,
+            update: None,
+        }
+    }
+}
+
 /// The step past a packet that a receiver has tried, or the error that closes the connection.
 pub(crate) fn step_of(
     next: usize,
     packet_type: PacketType,
-    opened: Result<Received, ReceiveError>,
+    opened: Opened,
 ) -> Result<Step, ReceiveError>
-    ensures stepped { result ≡ step_of next (incoming_of (is_ok result) packet_type opened) }
+    ensures stepped { result ≡ step_of next (incoming_of (is_ok result) packet_type opened.update opened.outcome) }
     ensures closes { IfErr result (λ error. IsSome (receive_error_code error)) }
     ensures drops { (error : ReceiveError) → IsGiven result (Incoming.Dropped error) → receive_error_code error ≡ None }
 {
-    let incoming = match opened {
-        Ok(received) => Incoming::Packet(packet_type, received),
+    let incoming = match opened.outcome {
+        Ok(received) => Incoming::Packet(packet_type, received, opened.update),
         Err(error) if error.code().is_some() => return Err(error),
         Err(error) => Incoming::Dropped(error),
     };

@@ -4,7 +4,7 @@
 use crate::tests::checks::{equal, holds};
 use key_derivation::Secret;
 use key_derivation::quic::{QuicSecret, Version};
-use quic_packets::connection::{Connection, Incoming, Level};
+use quic_packets::connection::{Connection, Incoming, Level, PeerUpdate, SentPacket};
 use quic_packets::{
     FixedBit, HeaderKey, KeyError, NumberError, PacketKey, PacketType, ReceiveError, SendError,
     Sender,
@@ -54,14 +54,15 @@ const CLIENT: [u8; 32] = [4; 32];
 
 const SERVER: [u8; 32] = [5; 32];
 
-/// One end, the packets that it keeps until their keys are there, and what it has received: how many packets, and the last number
-/// of a 1-RTT packet.
+/// One end, the packets that it keeps until their keys are there, and what it has received: how many packets, the last number of a
+/// 1-RTT packet, and the key updates of the peer.
 #[derive(Drop)]
 struct End {
     connection: Connection,
     kept: Vec<Vec<u8>>,
     count: u8,
     last: u8,
+    updates: Vec<PeerUpdate>,
 }
 
 /// The secret of version 1 with these bytes.
@@ -76,6 +77,7 @@ fn with_nothing_received(alloc: Global, connection: Connection) -> End {
         kept: Vec::new(alloc),
         count: 0,
         last: NONE,
+        updates: Vec::new(alloc),
     }
 }
 
@@ -104,9 +106,12 @@ fn receive(alloc: Global, end: &mut End, datagram: &mut [u8], id: &[u8]) -> Resu
     while at < datagram.len() {
         let step = end.connection.receive(datagram, at, ID.len(), id)?;
         match step.incoming {
-            Incoming::Packet(packet_type, received) => {
+            Incoming::Packet(packet_type, received, update) => {
                 let payload = &datagram[received.payload.start..received.payload.end];
                 frames(end, packet_type, received.number, received.phase, payload)?;
+                if let Some(update) = update {
+                    begin_timer(end, update)?;
+                }
             }
             Incoming::NoKeys(_) => {
                 let packet = Vec::from_slice(alloc, &datagram[at..step.next])?;
@@ -125,6 +130,13 @@ fn receive_kept(alloc: Global, end: &mut End) -> Result<(), Fail> {
     for packet in &mut kept {
         receive(alloc, end, packet, &ID)?;
     }
+    Ok(())
+}
+
+/// Begins the timer of three probe timeouts, after which an end forgets the previous keys. Here it keeps the key update with which
+/// the timer begins.
+fn begin_timer(end: &mut End, update: PeerUpdate) -> Result<(), Fail> {
+    end.updates.push(update)?;
     Ok(())
 }
 
@@ -331,7 +343,10 @@ fn shake_hands(alloc: Global, client: &mut End, server: &mut End) -> Result<(), 
     Ok(())
 }
 
-/// Asserts that each packet is received. The client begins with the keys of 0-RTT packets.
+use PeerUpdate::{Answered, Initiated};
+
+/// Asserts that each packet is received, and each key update of the peer is told once, with its first packet. The client begins with
+/// the keys of 0-RTT packets.
 fn receive_all(
     rt: &impl Abort,
     alloc: Global,
@@ -343,6 +358,10 @@ fn receive_all(
     shake_hands(alloc, client, server)?;
     update_twice(alloc, client, server)?;
     equal(rt, &(client.count, server.count), &(10, 11));
+    let of_server = [Answered, Initiated, Answered, Initiated];
+    equal(rt, &client.updates, &Vec::from_slice(alloc, &of_server)?);
+    let of_client = [Initiated, Answered, Initiated, Answered];
+    equal(rt, &server.updates, &Vec::from_slice(alloc, &of_client)?);
     Ok(())
 }
 
@@ -389,7 +408,9 @@ fn becomes(
 ) {
     let found = match connection.receive(packet, 0, ID.len(), id) {
         Ok(step) => match step.incoming {
-            Incoming::Packet(_, _) => Ok("received"),
+            Incoming::Packet(_, _, None) => Ok("received"),
+            Incoming::Packet(_, _, Some(Initiated)) => Ok("initiated"),
+            Incoming::Packet(_, _, Some(Answered)) => Ok("answered"),
             Incoming::NoKeys(_) => Ok("no keys"),
             Incoming::Dropped(_) => Ok("dropped"),
             Incoming::Ignored => Ok("ignored"),
@@ -550,7 +571,7 @@ fn closes(rt: &impl Abort, alloc: Global, end: &mut Connection, row: &Closing) -
     let mut right = authentic(alloc, packet_type, 0, number, &PINGS)?;
     becomes(rt, end, &mut right, &ID, Ok("received"));
     let mut update = authentic(alloc, PacketType::OneRtt, KEY_PHASE, 7, &PINGS)?;
-    becomes(rt, end, &mut update, &ID, Ok("received"));
+    becomes(rt, end, &mut update, &ID, Ok("initiated"));
     equal(
         rt,
         &end.sender(Level::OneRtt).map(Sender::phase),
@@ -624,25 +645,35 @@ fn forged_first_packet(rt: HostRuntime) -> Result<(), Fail> {
     Ok(())
 }
 
-/// Sends packets of 1-RTT until the key is used up, and returns their number.
-fn sends_until_used_up(alloc: Global, connection: &mut Connection) -> Result<u8, Fail> {
+/// Sends packets of 1-RTT until the key is used up, and returns how many there were, and the number of the last one that a key
+/// update followed.
+fn sends_until_used_up(
+    alloc: Global,
+    connection: &mut Connection,
+) -> Result<(u8, Option<u64>), Fail> {
+    let mut last_of_phase = None;
     for count in 0..9 {
         let mut packet = unsent(alloc, &ONE_RTT, [PING, NONE, 0, 0])?;
         match connection.send(Level::OneRtt, &mut packet, 9..13) {
+            Ok(sent) if sent.keys_updated => last_of_phase = Some(sent.number),
             Ok(_) => {}
-            Err(SendError::KeyUsedUp) => return Ok(count),
+            Err(SendError::KeyUsedUp) => return Ok((count, last_of_phase)),
             Err(error) => return Err(error.into()),
         }
     }
-    Ok(9)
+    Ok((9, last_of_phase))
 }
 
 /// Asserts that the last packet of a key is kept for the one that closes the connection.
 fn keeps_one_to_close(rt: &impl Abort, alloc: Global, end: &mut Connection) -> Result<(), Fail> {
-    equal(rt, &sends_until_used_up(alloc, end)?, &3);
+    equal(rt, &sends_until_used_up(alloc, end)?, &(3, None));
     let mut close = unsent(alloc, &ONE_RTT, [PING, NONE, 0, 0])?;
     let closed = end.send_close(Level::OneRtt, &mut close, 9..13);
-    equal(rt, &closed, &Ok(3));
+    let last = SentPacket {
+        number: 3,
+        keys_updated: false,
+    };
+    equal(rt, &closed, &Ok(last));
     Ok(())
 }
 
@@ -653,17 +684,18 @@ const ACKNOWLEDGED: [(u64, bool, Result<(), NumberError>); 3] = [
     (5, true, Ok(())),
 ];
 
-/// Asserts that the keys are updated when fewer than half of the packets are left, and again after an acknowledgment.
+/// Asserts that the keys are updated when fewer than half of the packets are left, and again after an acknowledgment, and that
+/// `send` tells both.
 fn updates_by_itself(rt: &impl Abort, alloc: Global, end: &mut Connection) -> Result<(), Fail> {
     end.confirm_handshake();
-    equal(rt, &sends_until_used_up(alloc, end)?, &6);
+    equal(rt, &sends_until_used_up(alloc, end)?, &(6, Some(2)));
     let updated = end.update_keys();
     equal(rt, &updated, &Err(KeyError::PhaseUnacknowledged));
     for (number, phase, outcome) in &ACKNOWLEDGED {
         let found = end.acknowledged(Level::OneRtt, *number, *phase);
         equal(rt, &found, outcome);
     }
-    equal(rt, &sends_until_used_up(alloc, end)?, &4);
+    equal(rt, &sends_until_used_up(alloc, end)?, &(4, Some(6)));
     Ok(())
 }
 

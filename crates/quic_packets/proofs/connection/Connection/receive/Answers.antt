@@ -74,6 +74,11 @@ returns-in-Err-clause-receiver c =
     let a = c.args in
     lemmas.no_packet a.self.now a.id_len a.id.now a.datagram.now a.at c.in-Err.step c.in-Err.ensures.unopened _
 
+pub returns-in-Err-clause-update : goal.returns-in-Err-clause-update
+returns-in-Err-clause-update c =
+    let a = c.args in
+    lemmas.no_packet a.self.now a.id_len a.id.now a.datagram.now a.at c.in-Err.step c.in-Err.ensures.unopened _
+
 pub returns-in-Err-clause-failed : goal.returns-in-Err-clause-failed
 returns-in-Err-clause-failed c is =
     let a = c.args in
@@ -84,8 +89,9 @@ returns-in-Ok-clause-ignored c =
     let a = c.args in
     let p = c.in-Ok.parts in
     let it = c.in-Ok.ensures.to_open in
+    let o = c.open-opened.result in
     rw c.step_of.ensures.stepped (
-      λ e. absurd (lemmas.not_ignored p.end (is_ok c.step_of.result) p.packet_type c.open-opened.result e),
+      λ e. absurd (lemmas.not_ignored p.end (is_ok c.step_of.result) p.packet_type o.update o.outcome e),
       λ d. absurd (d.1 p it.packet),
     )
 
