@@ -1,6 +1,6 @@
 -- The packet at a byte of a datagram, and the step past it, whether a receiver has tried it or not.
 use Rattle.std.proofs.Common.{◌≡◌, ℕ, ◌+◌, ◌-◌, ◌<◌, ◌≤◌, ◌↔◌, ◌⊎◌, Bool, true, false, inl, inr, List, length, Option, None, Some, Ok, Err, Result, OnErr, IsErrOf, IfErr, IfSome, IsSome, IsFalse, IsTrue, is_some, if◌then◌else◌, unwrap_or, slice_index, refl, sym, ap, subst, arith, ◌∙◌}
-use Rattle.quic_packets.specs.Connection.{Connection, IfPacket, IsGiven, IsOpening, IsOwn, IsPacketAt, IsStranger, IsTried, IsUnopened, IsWithoutKeys, end_of, incoming_of, is_opened, opened_as, opened_of, packet_in, receiver_of, space_of, step_of, with_receiver, with_sender}
+use Rattle.quic_packets.specs.Connection.{Connection, IfPacket, IsGiven, IsOpening, IsOwn, IsPacketAt, IsStranger, IsTried, IsUnopened, IsWithoutKeys, end_of, incoming_of, is_discarded, is_opened, opened_as, opened_of, packet_in, receiver_of, space_of, step_of, with_receiver, with_sender}
 use Rattle.quic_packets.specs.Datagram.{bytes_of, number_in, packet_of}
 use Rattle.quic_packets.specs.Errors.{receive_error_code}
 use Rattle.quic_packets.specs.Header.{HasSample}
@@ -36,7 +36,8 @@ step_cases P next goes_on t u (Err e) received closed dropped =
 
 pub opened_is : (next : ℕ) (goes_on : Bool) (t : PacketType) (u : Option PeerUpdate) (o : Result Received ReceiveError)
     → opened_of (step_of next (incoming_of goes_on t u o)) ≡ Some o
-opened_is next goes_on t u o = step_cases (λ o step. opened_of step ≡ Some o) next goes_on t u o (λ r. refl) (λ e. refl) (λ e. refl)
+opened_is next goes_on t u o =
+    step_cases (λ o step. opened_of step ≡ Some o) next goes_on t u o (λ r. refl) (λ e. refl) (λ e. refl)
 
 -- a packet that was tried isn't ignored
 pub not_ignored : (next : ℕ) (goes_on : Bool) (t : PacketType) (u : Option PeerUpdate) (o : Result Received ReceiveError)
@@ -94,8 +95,14 @@ module _ (c : Connection) (id_len : ℕ) (id datagram : List ℕ) (at : ℕ) (pa
   pub same_parts : (p : Packet) → IsPacketAt c id_len id datagram at p → p ≡ parts
   same_parts p is = let its : packet_of c.fixed_bit id_len datagram at ≡ Ok p = is.parsed in cc
 
-  pub not_own : (IsOwn id datagram parts → ⊥) → (p : Packet) → IsPacketAt c id_len id datagram at p → ⊥
-  not_own other p is = other (subst (IsOwn id datagram) (same_parts p is) is.own)
+  -- it isn't the connection's, or its keys were dropped
+  abbrev IsOther : Type 0
+  IsOther = IsOwn id datagram parts → IsFalse (is_discarded c parts.packet_type) → ⊥
+
+  pub not_own : IsOther → (p : Packet) → IsPacketAt c id_len id datagram at p → ⊥
+  not_own other p is =
+      let same = same_parts p is in
+      other (subst (IsOwn id datagram) same is.own) (subst (λ p. IsFalse (is_discarded c p.packet_type)) same is.undropped)
 
   -- a packet that isn't opened
   module _ (begins : parts.start ≡ at) (some : parts.start < parts.end) (within : parts.end ≤ length datagram) where
@@ -107,20 +114,24 @@ module _ (c : Connection) (id_len : ℕ) (id datagram : List ℕ) (at : ℕ) (pa
       incoming = why;
     }
 
-    pub past_stranger : (IsOwn id datagram parts → ⊥) → IsUnopened c id_len id datagram at (record { next = parts.end; incoming = Ignored })
+    pub past_stranger : IsOther → IsUnopened c id_len id datagram at (record { next = parts.end; incoming = Ignored })
     past_stranger other = past Ignored (inl (refl, not_own other))
 
-    pub past_keyless : IsOwn id datagram parts → (IsSome (receiver_of c parts.packet_type) → ⊥)
+    pub past_keyless : IsOwn id datagram parts → IsFalse (is_discarded c parts.packet_type)
+        → (IsSome (receiver_of c parts.packet_type) → ⊥)
         → IsUnopened c id_len id datagram at (record { next = parts.end; incoming = NoKeys parts.packet_type })
-    past_keyless own none = past (NoKeys parts.packet_type) (inr (parts, record { parsed = parsed; own = own }, refl, none))
+    past_keyless own undropped none =
+        past (NoKeys parts.packet_type) (inr (parts, record { parsed = parsed; own = own; undropped = undropped }, refl, none))
 
   -- what a receiver has tried
   module _ (c' : Connection) (new : List ℕ) (opened : Opened) (result : Result Step ReceiveError)
       (within : parts.end ≤ length datagram) (goes_on : Bool)
-      (stepped : result ≡ step_of parts.end (incoming_of goes_on parts.packet_type opened.update opened.outcome)) (codes : HasCode result)
+      (stepped : result ≡ step_of parts.end (incoming_of goes_on parts.packet_type opened.update opened.outcome))
+      (codes : HasCode result)
       (some : IsSome (receiver_of c' parts.packet_type))
       (tried : IfSome (receiver_of c parts.packet_type) (λ r. IfSome (receiver_of c' parts.packet_type) (λ r'. IsTried r
-      (space_of c parts.packet_type) c.failures parts datagram opened.outcome r' (space_of c' parts.packet_type) c'.failures new))) where
+      (space_of c parts.packet_type) c.failures parts datagram opened.outcome r' (space_of c' parts.packet_type) c'.failures
+      new))) where
     abbrev o : Result Received ReceiveError
     o = opened.outcome
 
@@ -180,7 +191,8 @@ module _ (c : Connection) (id_len : ℕ) (id datagram : List ℕ) (at : ℕ) (pa
         let has : HasSample (number_in parts) (parts.end - parts.start) = subst (λ q. HasSample (number_in q) (q.end - q.start)) same sample in
         let of_it : IsFalse (is_other_version r.version parts.version) = subst (λ q. IsFalse (is_other_version r.version q.version)) same own in
         subst (λ q. IfSome (opened_of result) (Becomes r q)) (sym same)
-        (subst (λ opened. IfSome opened (Becomes r parts)) (sym (ap opened_of stepped ∙ opened_is parts.end goes_on parts.packet_type u o))
+        (subst (λ opened. IfSome opened (Becomes r parts))
+        (sym (ap opened_of stepped ∙ opened_is parts.end goes_on parts.packet_type u o))
         (it.outcome opening.receiving within of_it has))
 
     module _ (held : IsSome (receiver_of c parts.packet_type)) where

@@ -24,13 +24,14 @@ use Rattle.quic_packets.specs.declared.receive_error.ReceiveError.TheVariants.{N
 use Rattle.quic_packets.specs.declared.fixed_bit.FixedBit.{FixedBit}
 use Rattle.quic_packets.specs.declared.receiver.Received.{Received}
 
--- an end: its three levels; the receiver of 0-RTT packets, which shares the space of 1-RTT; the packets that have failed
--- authentication; how many packets a new sender may seal; and what the fixed bit of a packet must be
+-- an end: its three levels; the receiver of 0-RTT packets, which shares the space of 1-RTT, and whether its keys were dropped;
+-- the packets that have failed authentication; how many packets a new sender may seal; and what the fixed bit of a packet must be
 pub record Connection : Type 0 where
   pub initial : Ends
   pub handshake : Ends
   pub one_rtt : Ends
   pub zero_rtt : Option Receiver
+  pub zero_rtt_discarded : Bool
   pub failures : Failures
   pub limit : ℕ
   pub fixed_bit : FixedBit
@@ -81,6 +82,14 @@ receiver_of c Handshake = c.handshake.receiver
 receiver_of c OneRtt = c.one_rtt.receiver
 receiver_of c _ = None
 
+-- the keys of the packets were dropped (RFC 9001 section 4.9), or are not taken
+abbrev pub is_discarded : Connection → PacketType → Bool
+is_discarded c Initial = c.initial.discarded
+is_discarded c ZeroRtt = c.zero_rtt_discarded
+is_discarded c Handshake = c.handshake.discarded
+is_discarded c OneRtt = c.one_rtt.discarded
+is_discarded c _ = false
+
 abbrev pub space_of : Connection → PacketType → Space
 space_of c Initial = c.initial.space
 space_of c Handshake = c.handshake.space
@@ -115,10 +124,11 @@ pub record IsOwn (id datagram : List ℕ) (parts : Packet) : Type 0 where
   pub addressed : slice_range datagram parts.destination_id.start parts.destination_id.end ≡ id
   pub keyed : has_keys parts.packet_type ≡ true
 
--- the packet at a byte is the connection's, and has these parts
+-- the packet at a byte is the connection's, its keys were not dropped, and it has these parts
 pub record IsPacketAt (c : Connection) (id_len : ℕ) (id datagram : List ℕ) (at : ℕ) (parts : Packet) : Type 0 where
   pub parsed : packet_of c.fixed_bit id_len datagram at ≡ Ok parts
   pub own : IsOwn id datagram parts
+  pub undropped : IsFalse (is_discarded c parts.packet_type)
 
 -- the limit of failures is not reached
 abbrev pub IsReceiving : Connection → Type 0
@@ -130,8 +140,8 @@ pub record IsOpening (c : Connection) (id_len : ℕ) (id datagram : List ℕ) (a
   pub packet : IsPacketAt c id_len id datagram at parts
   pub receiver : receiver_of c parts.packet_type ≡ Some r
 
--- the packet with these parts is the connection's, and the receiver of its type is there. Its place is that of each packet that is
--- read.
+-- the packet with these parts is the connection's, and the receiver of its type is there. Its place is that of each packet that
+-- is read.
 pub record IsToOpen (c : Connection) (id_len : ℕ) (id datagram : List ℕ) (at : ℕ) (parts : Packet) : Type 0 where
   pub packet : IsPacketAt c id_len id datagram at parts
   pub receiver : IsSome (receiver_of c parts.packet_type)
@@ -144,11 +154,11 @@ abbrev pub end_of : Result Packet DatagramError → (len : ℕ) → ℕ
 end_of (Ok parts) len = parts.end
 end_of (Err error) len = next_after error len
 
--- a packet that is not the connection's is ignored
+-- a packet that is not the connection's, or whose keys were dropped, is ignored
 abbrev pub IsStranger : (c : Connection) (id_len : ℕ) (id datagram : List ℕ) (at : ℕ) → Incoming → Type 0
 IsStranger c id_len id datagram at incoming = (incoming ≡ Ignored) × ((parts : Packet) → ¬ IsPacketAt c id_len id datagram at parts)
 
--- the keys of a packet of the connection are not there
+-- the keys of a packet of the connection are still to come
 abbrev pub IsWithoutKeys : (c : Connection) (id_len : ℕ) (id datagram : List ℕ) (at : ℕ) → Incoming → Type 0
 IsWithoutKeys c id_len id datagram at incoming = (parts : Packet) × IsPacketAt c id_len id datagram at parts
     × (incoming ≡ NoKeys parts.packet_type) × ¬ IsSome (receiver_of c parts.packet_type)
@@ -183,9 +193,10 @@ update_of (Err error) = None
 abbrev pub IfPacket : Result Step ReceiveError → (PacketType → Received → Type 0) → Type 0
 IfPacket result P = IfOk result (λ step. IfSome (packet_in step.incoming) (λ p. P p.0 p.1))
 
--- what the receiver returned, with a key update of the peer: after an error, either the packet is dropped and the connection goes on,
--- or it is closed
-abbrev pub incoming_of : (goes_on : Bool) → PacketType → Option PeerUpdate → Result Received ReceiveError → Result Incoming ReceiveError
+-- what the receiver returned, with a key update of the peer: after an error, either the packet is dropped and the connection goes
+-- on, or it is closed
+abbrev pub incoming_of : (goes_on : Bool) → PacketType → Option PeerUpdate → Result Received ReceiveError
+    → Result Incoming ReceiveError
 incoming_of goes_on packet_type update (Ok received) = Ok (PacketOf packet_type received update)
 incoming_of goes_on packet_type update (Err error) = if goes_on then Ok (Dropped error) else Err error
 

@@ -1,6 +1,6 @@
 -- What an end of a connection has of an encryption level: its keys for both directions, and one space of packet numbers (RFC 9000
 -- section 12.3, RFC 9001 sections 4.9, 5.7 and 6).
-use Rattle.std.specs.Prelude.{◌≡◌, ℕ, ◌+◌, ◌-◌, ◌*◌, ◌^◌, ◌<◌, ◌≤◌, ◌↔◌, Bool, true, false, not, ◌&&◌, nat_lt, min, if◌then◌else◌, IsTrue, IsFalse, List, length, slice_index, Option, None, Some, is_some, Result, IsErrOf}
+use Rattle.std.specs.Prelude.{◌≡◌, ℕ, ◌+◌, ◌-◌, ◌*◌, ◌^◌, ◌<◌, ◌≤◌, ◌↔◌, Bool, true, false, not, ◌&&◌, nat_lt, min, if◌then◌else◌, IsTrue, IsFalse, List, length, slice_index, Option, None, Some, is_some, Result, ⊤, IsOk, IsOkUnless, IsErrOf, OnOk, OnErr}
 use Rattle.aead_ciphers.specs.Gcm.{Fits}
 use Rattle.aead_ciphers.specs.Packet.{PacketFits}
 use Rattle.key_derivation.specs.Quic.{QuicSecretState}
@@ -14,19 +14,26 @@ use Rattle.quic_packets.specs.Versions.{is_other_version}
 use Rattle.quic_packets.specs.declared.connection.ends.SentPacket.{SentPacket}
 use Rattle.quic_packets.specs.declared.connection.incoming.PeerUpdate.{PeerUpdate}
 use Rattle.quic_packets.specs.declared.connection.incoming.PeerUpdate.TheVariants.{Initiated, Answered}
+use Rattle.quic_packets.specs.declared.key_error.KeyError.{KeyError}
+use Rattle.quic_packets.specs.declared.key_error.KeyError.TheVariants.{Discarded}
 use Rattle.quic_packets.specs.declared.send_error.SendError.{SendError}
 use Rattle.quic_packets.specs.declared.send_error.SendError.TheVariants.{EmptyPayload, NoFixedBit, NoProtection, NoSample, NumberAtFirstByte, NumberLength, NumberTooFar, NumbersEnded, OtherVersion, TooLong, TooShort}
 use Rattle.quic_packets.specs.declared.fixed_bit.FixedBit.{FixedBit}
 
--- a sender and a receiver, each of which is there or not, and the numbers that were received
+-- a sender and a receiver, each of which is there or not, the numbers that were received, and whether the keys were dropped
 pub record Ends : Type 0 where
   pub sender : Option Sender
   pub receiver : Option Receiver
   pub space : Space
+  pub discarded : Bool
 
--- a level without keys, of which nothing was received
+-- a level without keys, which may come, of which nothing was received
 abbrev pub no_ends : Ends
-no_ends = record { sender = None; receiver = None; space = new_space 2 }
+no_ends = record { sender = None; receiver = None; space = new_space 2; discarded = false }
+
+-- a level whose keys were dropped (RFC 9001 section 4.9)
+abbrev pub after_discard : Ends → Ends
+after_discard e = record e { sender = None; receiver = None; discarded = true }
 
 -- the sender, if there is one, is made of a secret
 abbrev pub is_derived : Option Sender → Bool
@@ -34,6 +41,13 @@ is_derived None = true
 is_derived (Some s) = is_some s.secret
 
 -- Installing keys.
+
+-- Keys are installed, after which the state is this one, unless those of the level were dropped (RFC 9001 section 4.9).
+pub record Installs {State : Type 0} (dropped : Bool) (result : Result ⊤ KeyError) (old new after : State) : Type 0 where
+  pub accepted : IsOk result ↔ IsFalse dropped
+  pub refused : IsOkUnless result Discarded
+  pub installed : OnOk result (new ≡ after)
+  pub kept : OnErr result (new ≡ old)
 
 -- the sender of a secret, with a limit: a new one that begins with number 0, or the one that is there, which continues with its
 -- numbers and its limit (RFC 9000 sections 12.3 and 17.2.5.3)
@@ -117,8 +131,8 @@ in_phase (Some s) phase = if differ s.phase phase then Some (updated_by s s.secr
 abbrev pub following : Option Sender → (was now : Bool) → Option Sender
 following sender was now = if differ was now then in_phase sender now else sender
 
--- The key update by which the peer has entered a phase that this end's sender is in or not: it answers one that this end has initiated
--- if the sender is in that phase, and has initiated one otherwise (RFC 9001 sections 6.1 and 6.2).
+-- The key update by which the peer has entered a phase that this end's sender is in or not: it answers one that this end has
+-- initiated if the sender is in that phase, and has initiated one otherwise (RFC 9001 sections 6.1 and 6.2).
 abbrev pub update_into : Option Sender → (phase : Bool) → PeerUpdate
 update_into None phase = Initiated
 update_into (Some s) phase = if differ s.phase phase then Initiated else Answered

@@ -6,9 +6,9 @@
 
 ghost use Rattle.std.specs.Prelude.{◌≡◌, ℕ, List, ◌+◌, ◌-◌, ◌^◌, ◌<◌, ◌≤◌, ◌↔◌, ◌⊎◌, ◌&&◌, false, true, min, length, slice_index, if◌then◌else◌, Some, None, IsFalse, IsTrue, IsSome, IfSome, IsOk, IfOk, IfErr, IsErrOf, OnOk, OnErr, unwrap_or, is_some};
 ghost use Rattle.std.specs.Option.{option_copied};
-ghost use Rattle.quic_packets.specs.Connection.{IfPacket, IsGiven, IsOpening, IsOwn, IsPacketAt, IsReceiving, IsToOpen, IsTried, IsUnopened, end_of, ends_of, has_keys, after_sending, kept_at, is_one_rtt, is_opened, opened_of, packet_in, receiver_of, sender_after, space_of, update_after, update_of, updates_after, with_ends, with_receiver, with_sender};
+ghost use Rattle.quic_packets.specs.Connection.{IfPacket, IsGiven, IsOpening, IsOwn, IsPacketAt, IsReceiving, IsToOpen, IsTried, IsUnopened, end_of, ends_of, has_keys, after_sending, kept_at, is_discarded, is_one_rtt, is_opened, opened_of, packet_in, receiver_of, sender_after, space_of, update_after, update_of, updates_after, with_ends, with_receiver, with_sender};
 ghost use Rattle.quic_packets.specs.Datagram.{bytes_of, number_in, packet_of};
-ghost use Rattle.quic_packets.specs.Ends.{Refuses, confirmed, forgotten, initiated, installed, is_confirmed, left, may_update, no_ends, prepared, sent, sent_as};
+ghost use Rattle.quic_packets.specs.Ends.{Installs, Refuses, after_discard, confirmed, forgotten, initiated, installed, is_confirmed, left, may_update, no_ends, prepared, sent, sent_as};
 ghost use Rattle.quic_packets.specs.Errors.{receive_error_code};
 ghost use Rattle.quic_packets.specs.Header.{HasSample};
 ghost use Rattle.quic_packets.specs.Keys.{secret_header_key, secret_key};
@@ -59,6 +59,8 @@ pub struct Connection {
     handshake: Ends,
     one_rtt: Ends,
     zero_rtt: Option<Receiver>,
+    /// Whether the keys of 0-RTT packets were dropped or are not taken, so that none can be installed.
+    is_zero_rtt_discarded: bool,
     failures: Failures,
     limit: u64,
     fixed_bit: FixedBit,
@@ -74,6 +76,7 @@ impl Model for Connection {
       handshake = c.handshake;
       one_rtt = c.one_rtt;
       zero_rtt = c.zero_rtt;
+      zero_rtt_discarded = c.is_zero_rtt_discarded;
       failures = c.failures;
       limit = c.limit;
       fixed_bit = c.fixed_bit;
@@ -91,6 +94,7 @@ impl Connection {
           handshake = no_ends;
           one_rtt = no_ends;
           zero_rtt = None;
+          zero_rtt_discarded = false;
           failures = record { count = 0; limit = 2 ^ 52 };
           limit = 2 ^ 23;
           fixed_bit = fixed_bit;
@@ -101,6 +105,7 @@ impl Connection {
             handshake: Ends::new(),
             one_rtt: Ends::new(),
             zero_rtt: None,
+            is_zero_rtt_discarded: false,
             failures: Failures::new(),
             limit: CONFIDENTIALITY_LIMIT,
             fixed_bit,
@@ -143,7 +148,8 @@ impl Connection {
         }
     }
 
-    /// Returns the numbers that were received at a level, for an ACK frame (`Space::ranges`). They stay when its keys are dropped.
+    /// Returns the numbers that were received at a level, for an ACK frame (`Space::ranges`). They stay when its keys are
+    /// dropped.
     pub fn space(&self, level: Level) -> &Space<2>
         ensures { result.now ≡ (ends_of self.now level).space }
     {
@@ -159,10 +165,13 @@ impl Connection {
     /// If the sender is there already, it continues with its numbers and its limit: the 0-RTT sender of a client becomes that of
     /// 1-RTT packets (RFC 9000 section 12.3), and the one of Initial packets gets the keys of the connection ID that a Retry
     /// packet brings (section 17.2.5.3). Its version becomes that of the secret.
-    pub fn install_sender(&mut self, level: Level, secret: QuicSecret)
-        ensures { self.new ≡ with_ends self.old level (record (ends_of self.old level) {
-          sender = Some (installed (ends_of self.old level).sender secret self.old.limit);
-        }) }
+    ///
+    /// Fails with `Discarded` if the keys of the level were dropped. The connection is then unchanged.
+    pub fn install_sender(&mut self, level: Level, secret: QuicSecret) -> Result<(), KeyError>
+        ensures installs { Installs (ends_of self.old level).discarded result self.old self.new
+            (with_ends self.old level (record (ends_of self.old level) {
+              sender = Some (installed (ends_of self.old level).sender secret self.old.limit);
+            })) }
     {
         match level {
             Level::Initial => self.initial.install_sender(secret, self.limit),
@@ -174,36 +183,47 @@ impl Connection {
     /// Installs the keys that open the packets of a level, in place of those that are there. The numbers received stay. For 1-RTT
     /// packets the key after the next key update is set too, so that the peer may update once the handshake is confirmed (RFC
     /// 9001 section 6.1).
-    pub fn install_receiver(&mut self, level: Level, secret: QuicSecret)
-        ensures { let made = new_receiver secret.version (secret_header_key secret) (secret_key secret) (Some secret) in
-            self.new ≡ with_ends self.old level (record (ends_of self.old level) {
+    ///
+    /// Fails with `Discarded` if the keys of the level were dropped. The connection is then unchanged.
+    pub fn install_receiver(&mut self, level: Level, secret: QuicSecret) -> Result<(), KeyError>
+        ensures installs { let made = new_receiver secret.version (secret_header_key secret) (secret_key secret) (Some secret) in
+            Installs (ends_of self.old level).discarded result self.old self.new
+            (with_ends self.old level (record (ends_of self.old level) {
               receiver = if is_one_rtt level then prepared (Some made) else Some made;
-            }) }
+            })) }
     {
         match level {
             Level::Initial => self.initial.install_receiver(secret),
             Level::Handshake => self.handshake.install_receiver(secret),
             Level::OneRtt => {
-                self.one_rtt.install_receiver(secret);
+                self.one_rtt.install_receiver(secret)?;
                 self.one_rtt.set_next_key();
+                Ok(())
             }
         }
     }
 
     /// Installs the keys that open 0-RTT packets, which share the space of 1-RTT packets.
-    pub fn install_zero_rtt_receiver(&mut self, secret: QuicSecret)
-        ensures { self.new ≡ record self.old {
+    ///
+    /// Fails with `Discarded` after `discard_zero_rtt`. The connection is then unchanged.
+    pub fn install_zero_rtt_receiver(&mut self, secret: QuicSecret) -> Result<(), KeyError>
+        ensures installs { Installs self.old.zero_rtt_discarded result self.old self.new (record self.old {
           zero_rtt = Some (new_receiver secret.version (secret_header_key secret) (secret_key secret) (Some secret));
-        } }
+        }) }
     {
+        if self.is_zero_rtt_discarded {
+            return Err(KeyError::Discarded);
+        }
         self.zero_rtt = Some(Receiver::from_secret(secret));
+        Ok(())
     }
 
     /// Drops the keys of a level, for both directions (RFC 9001 sections 4.9.1 and 4.9.2). The numbers received stay.
     ///
-    /// A secret whose sender was dropped must not be installed again, since its numbers would begin anew.
+    /// From then on the packets of the level are ignored, and no keys can be installed for it: a secret whose sender was dropped
+    /// would begin its numbers anew. A level that had no keys takes none either.
     pub fn discard(&mut self, level: Level)
-        ensures { self.new ≡ with_ends self.old level (record (ends_of self.old level) { sender = None; receiver = None }) }
+        ensures { self.new ≡ with_ends self.old level (after_discard (ends_of self.old level)) }
     {
         match level {
             Level::Initial => self.initial.discard(),
@@ -212,11 +232,14 @@ impl Connection {
         }
     }
 
-    /// Drops the keys that open 0-RTT packets (RFC 9001 section 4.9.3).
+    /// Drops the keys that open 0-RTT packets (RFC 9001 section 4.9.3). From then on these packets are ignored, and no keys can
+    /// be installed for them. For a server that takes no 0-RTT packets, and for a client, to which none is sent, it is the first
+    /// call.
     pub fn discard_zero_rtt(&mut self)
-        ensures { self.new ≡ record self.old { zero_rtt = None } }
+        ensures { self.new ≡ record self.old { zero_rtt = None; zero_rtt_discarded = true } }
     {
         self.zero_rtt = None;
+        self.is_zero_rtt_discarded = true;
     }
 
     /// Records that the handshake is confirmed: at a server when it is complete, at a client when HANDSHAKE_DONE arrives (RFC
@@ -257,9 +280,9 @@ impl Connection {
     /// Records that the peer has acknowledged the packet of a level with this number, in a packet with this Key Phase bit
     /// (`Received::phase`), as `Sender::acknowledged_in` does.
     ///
-    /// Fails with `NoKeys` if the level has no sender, with `NeverSent` if the number was not sent, and with `UpdateUnanswered` if
-    /// a packet of the current keys is acknowledged under older ones (RFC 9001 section 6.2). The connection is then unchanged; the
-    /// last two close it.
+    /// Fails with `NoKeys` if the level has no sender, with `NeverSent` if the number was not sent, and with `UpdateUnanswered`
+    /// if a packet of the current keys is acknowledged under older ones (RFC 9001 section 6.2). The connection is then unchanged;
+    /// the last two close it.
     pub fn acknowledged(
         &mut self,
         level: Level,
@@ -284,8 +307,8 @@ impl Connection {
         }
     }
 
-    /// Sends a packet of a level, as `Sender::send` does, and returns its number and whether a key update followed it. The packet is
-    /// the header, which ends with room for the number, the payload, and 16 bytes for the tag. Its fixed bit is 1.
+    /// Sends a packet of a level, as `Sender::send` does, and returns its number and whether a key update followed it. The packet
+    /// is the header, which ends with room for the number, the payload, and 16 bytes for the tag. Its fixed bit is 1.
     ///
     /// After a 1-RTT packet, the keys are updated where they may be (see `update_keys`) once fewer than 2^16 packets are left to
     /// the key, or fewer than half of a lower limit; and the receiver's next key is set, since the packet may bring the
@@ -359,8 +382,8 @@ impl Connection {
     /// `id_len` is the length of this end's own connection IDs, and `id` the destination ID of the datagram's first packet, which
     /// the caller knows as the connection's: an own one or, at a server, the one that the client chose for its first packets.
     ///
-    /// A packet with a long header of another version than the receiver's is dropped (`ReceiveError::OtherVersion`), and so is each
-    /// one for which `Receiver::receive` fails with an error that has no code, such as `Refused` or `Duplicate`.
+    /// A packet with a long header of another version than the receiver's is dropped (`ReceiveError::OtherVersion`), and so is
+    /// each one for which `Receiver::receive` fails with an error that has no code, such as `Refused` or `Duplicate`.
     ///
     /// A key update of the peer is followed before the call returns, so before anything of the packet is acknowledged (RFC 9001
     /// section 6.2), and `Incoming::Packet` has it.
@@ -454,7 +477,7 @@ impl Connection {
             });
         };
         let next = parts.end;
-        if !is_own_packet(datagram, &parts, id) {
+        if !self.takes(datagram, &parts, id) {
             return Err(Step {
                 next,
                 incoming: Incoming::Ignored,
@@ -468,6 +491,29 @@ impl Connection {
             });
         }
         Ok(parts)
+    }
+
+    /// Whether a packet is the connection's, and its keys were not dropped.
+    fn takes(&self, datagram: &[u8], parts: &Packet, id: &[u8]) -> bool
+        requires { (parts.now.destination_id.start ≤ parts.now.destination_id.end)
+            × (parts.now.destination_id.end ≤ length datagram.now) }
+        ensures { IsTrue result ↔ (IsOwn id.now datagram.now parts.now
+            × IsFalse (is_discarded self.now parts.now.packet_type)) }
+    {
+        is_own_packet(datagram, parts, id) && !self.is_discarded(parts.packet_type)
+    }
+
+    /// Whether the keys of packets of a type were dropped, or are not taken.
+    fn is_discarded(&self, packet_type: PacketType) -> bool
+        ensures { result ≡ is_discarded self.now packet_type }
+    {
+        match packet_type {
+            PacketType::Initial => self.initial.is_discarded(),
+            PacketType::ZeroRtt => self.is_zero_rtt_discarded,
+            PacketType::Handshake => self.handshake.is_discarded(),
+            PacketType::OneRtt => self.one_rtt.is_discarded(),
+            _ => false,
+        }
     }
 
     /// Whether the receiver of packets of a type is there.

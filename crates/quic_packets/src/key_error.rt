@@ -2,8 +2,8 @@
 
 use thiserror::Error;
 
-/// The error of creating a key, a sender or a receiver, or of changing the keys of one, which is then unchanged. None closes a
-/// connection.
+/// The error of creating a key, a sender or a receiver, or of changing the keys of one or of a connection, which is then
+/// unchanged. None closes a connection.
 #[derive(Clone, Copy, PartialEq, Eq, Debug, Drop, Error)]
 pub enum KeyError {
     /// The key is not as long as the algorithm's keys.
@@ -24,4 +24,8 @@ pub enum KeyError {
     /// No packet of this key phase is acknowledged, so the keys cannot be updated again yet (RFC 9001 section 6.1).
     #[error("no packet of this key phase was acknowledged")]
     PhaseUnacknowledged,
+    /// The connection has dropped the keys of the level or of 0-RTT packets, or takes none, so no keys can be installed (RFC 9001
+    /// section 4.9).
+    #[error("the keys were dropped, so no others can be installed")]
+    Discarded,
 }

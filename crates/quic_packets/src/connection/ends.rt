@@ -1,9 +1,9 @@
 //! The keys of an encryption level, for both directions, and its space of packet numbers.
 
-ghost use Rattle.std.specs.Prelude.{◌≡◌, ◌<◌, ◌≤◌, ◌↔◌, false, Some, None, IsFalse, IsTrue, IsSome, IfSome, IsOk, IfOk, IsErrOf, OnOk, OnErr};
+ghost use Rattle.std.specs.Prelude.{◌≡◌, ◌<◌, ◌≤◌, ◌↔◌, false, Some, None, IsFalse, IsTrue, IsSome, IfSome, IsOk, IfOk, IsErrOf, IsOkUnless, OnOk, OnErr};
 ghost use Rattle.std.specs.Option.{option_copied};
 ghost use Rattle.quic_packets.specs.Connection.{IsTried};
-ghost use Rattle.quic_packets.specs.Ends.{Refuses, confirmed, following, forgotten, in_phase, initiated, installed, is_confirmed, is_due, kept_back, left, may_update, no_ends, peer_update, phase_of, renewed, renews, sent, sent_as, update_into, with_next_key};
+ghost use Rattle.quic_packets.specs.Ends.{Installs, Refuses, after_discard, confirmed, following, forgotten, in_phase, initiated, installed, is_confirmed, is_due, kept_back, left, may_update, no_ends, peer_update, phase_of, renewed, renews, sent, sent_as, update_into, with_next_key};
 ghost use Rattle.quic_packets.specs.Keys.{secret_header_key, secret_key};
 ghost use Rattle.quic_packets.specs.Receiving.{new_receiver};
 ghost use Rattle.quic_packets.specs.Sending.{IsInTurn, IsSealable, IsSent, IsUnanswered, after_acknowledgement, is_unsent};
@@ -42,6 +42,8 @@ pub(crate) struct Ends {
     sender: Option<Sender>,
     receiver: Option<Receiver>,
     space: Space<2>,
+    /// Whether the keys were dropped, so that none can be installed.
+    is_discarded: bool,
 }
 
 impl Model for Ends {
@@ -50,7 +52,12 @@ impl Model for Ends {
 
     ghost Value = { Ends };
 
-    ghost view = { λ e. record { sender = e.sender; receiver = e.receiver; space = e.space } };
+    ghost view = { λ e. record {
+      sender = e.sender;
+      receiver = e.receiver;
+      space = e.space;
+      discarded = e.is_discarded;
+    } };
 
     ghost invariant = { λ e. is_derived e.sender ≡ true };
 }
@@ -64,6 +71,7 @@ impl Ends {
             sender: None,
             receiver: None,
             space: Space::new(),
+            is_discarded: false,
         }
     }
 
@@ -88,29 +96,52 @@ impl Ends {
         self.receiver.is_some()
     }
 
-    /// Creates the sender, or continues with the keys of this secret.
-    pub(crate) fn install_sender(&mut self, secret: QuicSecret, limit: u64)
-        ensures { self.new ≡ record self.old { sender = Some (installed self.old.sender secret limit) } }
+    /// Whether the keys were dropped.
+    pub(crate) fn is_discarded(&self) -> bool
+        ensures { result ≡ self.now.discarded }
     {
+        self.is_discarded
+    }
+
+    /// Checks that the keys were not dropped.
+    fn check_undropped(&self) -> Result<(), KeyError>
+        ensures accepted { IsOk result ↔ IsFalse self.now.discarded }
+        ensures refused { IsOkUnless result KeyError.Discarded }
+    {
+        if self.is_discarded {
+            return Err(KeyError::Discarded);
+        }
+        Ok(())
+    }
+
+    /// Creates the sender, or continues with the keys of this secret.
+    pub(crate) fn install_sender(&mut self, secret: QuicSecret, limit: u64) -> Result<(), KeyError>
+        ensures installs { Installs self.old.discarded result self.old self.new
+            (record self.old { sender = Some (installed self.old.sender secret limit) }) }
+    {
+        self.check_undropped()?;
         if let Some(sender) = &mut self.sender {
             let Ok(()) = sender.install_secret(secret) else {
                 unreachable!();
             };
-            return;
+            return Ok(());
         }
         let Ok(sender) = Sender::from_secret(secret, 0) else {
             unreachable!();
         };
         self.sender = Some(sender.with_limit(limit));
+        Ok(())
     }
 
     /// Creates the receiver, in place of the one that is there.
-    pub(crate) fn install_receiver(&mut self, secret: QuicSecret)
-        ensures { self.new ≡ record self.old {
+    pub(crate) fn install_receiver(&mut self, secret: QuicSecret) -> Result<(), KeyError>
+        ensures installs { Installs self.old.discarded result self.old self.new (record self.old {
           receiver = Some (new_receiver secret.version (secret_header_key secret) (secret_key secret) (Some secret));
-        } }
+        }) }
     {
+        self.check_undropped()?;
         self.receiver = Some(Receiver::from_secret(secret));
+        Ok(())
     }
 
     /// Sets the receiver's next key, unless it is set.
@@ -122,12 +153,13 @@ impl Ends {
         }
     }
 
-    /// Drops the keys of both directions.
+    /// Drops the keys of both directions, so that none can be installed again.
     pub(crate) fn discard(&mut self)
-        ensures { self.new ≡ record self.old { sender = None; receiver = None } }
+        ensures { self.new ≡ after_discard self.old }
     {
         self.sender = None;
         self.receiver = None;
+        self.is_discarded = true;
     }
 
     /// Sends a packet, if more than `kept_back` packets are left to the key.
@@ -296,6 +328,7 @@ impl Ends {
             parts.now datagram.old result r' self.new.space failures.new datagram.new)) }
         ensures some { IsSome self.new.receiver }
         ensures sender { self.new.sender ≡ self.old.sender }
+        ensures discarded { self.new.discarded ≡ self.old.discarded }
         ensures kept { OnErr result (self.new ≡ self.old) }
     {
         let Some(receiver) = &mut self.receiver else {
@@ -332,6 +365,7 @@ impl Ends {
             parts.now datagram.old result.outcome r' self.new.space failures.new datagram.new)) }
         ensures some { IsSome self.new.receiver }
         ensures followed { self.new.sender ≡ following self.old.sender (phase_of self.old.receiver) (phase_of self.new.receiver) }
+        ensures discarded { self.new.discarded ≡ self.old.discarded }
         ensures update { result.update ≡ peer_update self.old.sender (phase_of self.old.receiver) (phase_of self.new.receiver) }
         ensures kept { OnErr result.outcome (self.new ≡ self.old) }
     {

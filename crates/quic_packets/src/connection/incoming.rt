@@ -33,13 +33,14 @@ pub enum Incoming {
     /// peer, if the packet is the first that the next keys opened. From then on the caller counts three times the probe timeout
     /// until `Connection::forget_previous` (RFC 9001 section 6.5).
     Packet(PacketType, Received, Option<PeerUpdate>),
-    /// The keys of packets of this type are not there. Nothing has changed, so the caller may keep the packet until they are (RFC
-    /// 9001 section 5.7).
+    /// The keys of packets of this type are still to come. Nothing has changed, so the caller may keep the packet until they are
+    /// installed, as far as it has room (RFC 9001 section 5.7).
     NoKeys(PacketType),
     /// The packet is dropped for this error, which does not close the connection.
     Dropped(ReceiveError),
-    /// The packet cannot be parsed, has another destination ID than the first one of the datagram (RFC 9000 section 12.2), or is
-    /// of a type without keys: Retry, Version Negotiation or another version. Nothing has changed.
+    /// The packet cannot be parsed, has another destination ID than the first one of the datagram (RFC 9000 section 12.2), is of
+    /// a type without keys: Retry, Version Negotiation or another version, or is of a type whose keys the connection has dropped
+    /// or doesn't take (`Connection::discard`, `discard_zero_rtt`). Nothing has changed.
     Ignored,
 }
 

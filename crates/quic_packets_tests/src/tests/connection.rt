@@ -54,12 +54,18 @@ const CLIENT: [u8; 32] = [4; 32];
 
 const SERVER: [u8; 32] = [5; 32];
 
-/// One end, the packets that it keeps until their keys are there, and what it has received: how many packets, the last number of a
-/// 1-RTT packet, and the key updates of the peer.
+/// How many packets without keys an end keeps, and how many bytes they have.
+const MAX_KEPT: usize = 16;
+
+const MAX_KEPT_BYTES: usize = 4096;
+
+/// One end, the packets that it keeps until their keys are there, the bytes for which it has room, and what it has received: how
+/// many packets, the last number of a 1-RTT packet, and the key updates of the peer.
 #[derive(Drop)]
 struct End {
     connection: Connection,
     kept: Vec<Vec<u8>>,
+    room: usize,
     count: u8,
     last: u8,
     updates: Vec<PeerUpdate>,
@@ -75,6 +81,7 @@ fn with_nothing_received(alloc: Global, connection: Connection) -> End {
     End {
         connection,
         kept: Vec::new(alloc),
+        room: MAX_KEPT_BYTES,
         count: 0,
         last: NONE,
         updates: Vec::new(alloc),
@@ -82,9 +89,13 @@ fn with_nothing_received(alloc: Global, connection: Connection) -> End {
 }
 
 /// Gives an end the secrets of its Initial packets and of the peer's.
-fn install_initial(connection: &mut Connection, own: QuicSecret, peer: QuicSecret) {
-    connection.install_sender(Level::Initial, own);
-    connection.install_receiver(Level::Initial, peer);
+fn install_initial(
+    connection: &mut Connection,
+    own: QuicSecret,
+    peer: QuicSecret,
+) -> Result<(), KeyError> {
+    connection.install_sender(Level::Initial, own)?;
+    connection.install_receiver(Level::Initial, peer)
 }
 
 /// Creates the client or the server, with the keys of Initial packets.
@@ -93,9 +104,9 @@ fn make_end(alloc: Global, is_client: bool) -> Result<End, Fail> {
     let server = QuicSecret::server_initial(Version::One, &ID)?;
     let mut connection = Connection::new(FixedBit::Required);
     if is_client {
-        install_initial(&mut connection, client, server);
+        install_initial(&mut connection, client, server)?;
     } else {
-        install_initial(&mut connection, server, client);
+        install_initial(&mut connection, server, client)?;
     }
     Ok(with_nothing_received(alloc, connection))
 }
@@ -113,10 +124,7 @@ fn receive(alloc: Global, end: &mut End, datagram: &mut [u8], id: &[u8]) -> Resu
                     begin_timer(end, update)?;
                 }
             }
-            Incoming::NoKeys(_) => {
-                let packet = Vec::from_slice(alloc, &datagram[at..step.next])?;
-                end.kept.push(packet)?;
-            }
+            Incoming::NoKeys(_) => keep(alloc, end, &datagram[at..step.next])?,
             Incoming::Dropped(_) | Incoming::Ignored => {}
         }
         at = step.next;
@@ -124,17 +132,27 @@ fn receive(alloc: Global, end: &mut End, datagram: &mut [u8], id: &[u8]) -> Resu
     Ok(())
 }
 
+/// Keeps a packet until its keys are there, if there is room.
+fn keep(alloc: Global, end: &mut End, packet: &[u8]) -> Result<(), Fail> {
+    if end.kept.len() < MAX_KEPT && packet.len() <= end.room {
+        end.room -= packet.len();
+        end.kept.push(Vec::from_slice(alloc, packet)?)?;
+    }
+    Ok(())
+}
+
 /// Receives the packets that were kept.
 fn receive_kept(alloc: Global, end: &mut End) -> Result<(), Fail> {
     let mut kept = mem::replace(&mut end.kept, Vec::new(alloc));
+    end.room = MAX_KEPT_BYTES;
     for packet in &mut kept {
         receive(alloc, end, packet, &ID)?;
     }
     Ok(())
 }
 
-/// Begins the timer of three probe timeouts, after which an end forgets the previous keys. Here it keeps the key update with which
-/// the timer begins.
+/// Begins the timer of three probe timeouts, after which an end forgets the previous keys. Here it keeps the key update with
+/// which the timer begins.
 fn begin_timer(end: &mut End, update: PeerUpdate) -> Result<(), Fail> {
     end.updates.push(update)?;
     Ok(())
@@ -147,13 +165,13 @@ fn frames(
     number: u64,
     phase: bool,
     payload: &[u8],
-) -> Result<(), NumberError> {
+) -> Result<(), Fail> {
     end.count = end.count.saturating_add(1);
     if packet_type == PacketType::OneRtt {
         end.last = (number % 0x80) as u8;
     }
     if let [message, acknowledged, ..] = payload {
-        take_message(&mut end.connection, *message);
+        take_message(&mut end.connection, *message)?;
         if *acknowledged != NONE {
             end.connection
                 .acknowledged(Level::OneRtt, u64::from(*acknowledged), phase)?;
@@ -163,30 +181,31 @@ fn frames(
 }
 
 /// Takes a message, which may bring keys.
-fn take_message(connection: &mut Connection, message: u8) {
+fn take_message(connection: &mut Connection, message: u8) -> Result<(), KeyError> {
     match message {
         CLIENT_HELLO => {
-            connection.install_zero_rtt_receiver(secret(EARLY));
-            connection.install_sender(Level::Handshake, secret(SERVER_HANDSHAKE));
-            connection.install_receiver(Level::Handshake, secret(CLIENT_HANDSHAKE));
-            connection.install_sender(Level::OneRtt, secret(SERVER));
+            connection.install_zero_rtt_receiver(secret(EARLY))?;
+            connection.install_sender(Level::Handshake, secret(SERVER_HANDSHAKE))?;
+            connection.install_receiver(Level::Handshake, secret(CLIENT_HANDSHAKE))?;
+            connection.install_sender(Level::OneRtt, secret(SERVER))?;
         }
         SERVER_HELLO => {
-            connection.install_sender(Level::Handshake, secret(CLIENT_HANDSHAKE));
-            connection.install_receiver(Level::Handshake, secret(SERVER_HANDSHAKE));
+            connection.install_sender(Level::Handshake, secret(CLIENT_HANDSHAKE))?;
+            connection.install_receiver(Level::Handshake, secret(SERVER_HANDSHAKE))?;
         }
         SERVER_FINISHED => {
-            connection.install_sender(Level::OneRtt, secret(CLIENT));
-            connection.install_receiver(Level::OneRtt, secret(SERVER));
+            connection.install_sender(Level::OneRtt, secret(CLIENT))?;
+            connection.install_receiver(Level::OneRtt, secret(SERVER))?;
         }
         CLIENT_FINISHED => {
-            connection.install_receiver(Level::OneRtt, secret(CLIENT));
+            connection.install_receiver(Level::OneRtt, secret(CLIENT))?;
             connection.discard_zero_rtt();
             finish(connection);
         }
         HANDSHAKE_DONE => finish(connection),
         _ => {}
     }
+    Ok(())
 }
 
 /// The handshake is confirmed, so that its keys are dropped (RFC 9001 sections 4.9.1 and 4.9.2).
@@ -277,8 +296,8 @@ const HANDSHAKES: [Flight; 5] = [
     },
 ];
 
-/// The ends of 1-RTT packets that follow, and whether the end updates its keys before it: a key update of the client, the answer, one
-/// packet between, and an update of the server, with an acknowledgment of each; twice.
+/// The ends of 1-RTT packets that follow, and whether the end updates its keys before it: a key update of the client, the answer,
+/// one packet between, and an update of the server, with an acknowledgment of each; twice.
 const UPDATES: [(bool, bool); 12] = [
     (true, true),
     (false, false),
@@ -345,8 +364,8 @@ fn shake_hands(alloc: Global, client: &mut End, server: &mut End) -> Result<(), 
 
 use PeerUpdate::{Answered, Initiated};
 
-/// Asserts that each packet is received, and each key update of the peer is told once, with its first packet. The client begins with
-/// the keys of 0-RTT packets.
+/// Asserts that each packet is received, and each key update of the peer is told once, with its first packet. The client begins
+/// with the keys of 0-RTT packets.
 fn receive_all(
     rt: &impl Abort,
     alloc: Global,
@@ -354,7 +373,7 @@ fn receive_all(
     server: &mut End,
 ) -> Result<(), Fail> {
     let early = secret(EARLY);
-    client.connection.install_sender(Level::OneRtt, early);
+    client.connection.install_sender(Level::OneRtt, early)?;
     shake_hands(alloc, client, server)?;
     update_twice(alloc, client, server)?;
     equal(rt, &(client.count, server.count), &(10, 11));
@@ -374,15 +393,15 @@ fn whole_connection(rt: HostRuntime) -> Result<(), Fail> {
 }
 
 /// An end that sends and receives under these secrets at the levels of Handshake and 1-RTT packets.
-fn established(own: [u8; 32], peer: [u8; 32]) -> Connection {
+fn established(own: [u8; 32], peer: [u8; 32]) -> Result<Connection, KeyError> {
     let mut connection = Connection::new(FixedBit::Required)
         .with_limit(4)
         .with_max_failures(2);
     for level in [Level::Handshake, Level::OneRtt] {
-        connection.install_sender(level, secret(own));
-        connection.install_receiver(level, secret(peer));
+        connection.install_sender(level, secret(own))?;
+        connection.install_receiver(level, secret(peer))?;
     }
-    connection
+    Ok(connection)
 }
 
 /// Sends a packet of this type, and returns it.
@@ -441,7 +460,7 @@ use Arrival::{Bytes, First, Forged};
 
 /// Returns the peer's first packet of this type.
 fn first_packet(alloc: Global, packet_type: PacketType) -> Result<Vec<u8>, Fail> {
-    sent(alloc, &mut established(CLIENT, SERVER), packet_type)
+    sent(alloc, &mut established(CLIENT, SERVER)?, packet_type)
 }
 
 /// Returns the bytes that come.
@@ -493,11 +512,11 @@ fn arrive(rt: &impl Abort, alloc: Global, end: &mut Connection) -> Result<(), Fa
     Ok(())
 }
 
-// A packet with another ID and one that can't be parsed are ignored, forged ones and duplicates are dropped, and one without keys is
-// kept. At the limit of failures nothing is opened, and the end still sends.
+// A packet with another ID and one that can't be parsed are ignored, forged ones and duplicates are dropped, and one without keys
+// is kept. At the limit of failures nothing is opened, and the end still sends.
 #[test]
 fn what_becomes_of_packets(rt: HostRuntime) -> Result<(), Fail> {
-    arrive(&rt, rt.alloc(), &mut established(SERVER, CLIENT))
+    arrive(&rt, rt.alloc(), &mut established(SERVER, CLIENT)?)
 }
 
 /// The Key Phase bit of a short header.
@@ -535,14 +554,14 @@ fn authentic(
     Ok(packet)
 }
 
-/// An authentic packet that closes a connection which has received the 1-RTT packet 5: its type, the bits that are set in its first
-/// byte, its number and its payload, and the error and its code.
+/// An authentic packet that closes a connection which has received the 1-RTT packet 5: its type, the bits that are set in its
+/// first byte, its number and its payload, and the error and its code.
 type Closing = (PacketType, u8, u8, &'static [u8], ReceiveError, u64);
 
 use ReceiveError::{KeyUpdate, NoFrames, ReservedBits};
 
-/// Each reserved bit of a short header, and both of a long one; no frames; and a packet of the next phase whose number is below one
-/// that the current keys opened. The codes are PROTOCOL_VIOLATION and KEY_UPDATE_ERROR (RFC 9000 section 20.1).
+/// Each reserved bit of a short header, and both of a long one; no frames; and a packet of the next phase whose number is below
+/// one that the current keys opened. The codes are PROTOCOL_VIOLATION and KEY_UPDATE_ERROR (RFC 9000 section 20.1).
 const CLOSING: [Closing; 5] = [
     (PacketType::OneRtt, 0x08, 6, &PINGS, ReservedBits, 0x0a),
     (PacketType::OneRtt, 0x10, 6, &PINGS, ReservedBits, 0x0a),
@@ -584,7 +603,7 @@ fn closes(rt: &impl Abort, alloc: Global, end: &mut Connection, row: &Closing) -
 #[test]
 fn authentic_packets_that_close(rt: HostRuntime) -> Result<(), Fail> {
     for row in &CLOSING {
-        closes(&rt, rt.alloc(), &mut established(SERVER, CLIENT), row)?;
+        closes(&rt, rt.alloc(), &mut established(SERVER, CLIENT)?, row)?;
     }
     Ok(())
 }
@@ -606,9 +625,9 @@ fn receives_one(
 
 /// A datagram of the peer: an Initial packet whose fixed bit is 0, and a Handshake packet.
 fn first_without_fixed_bit(alloc: Global) -> Result<Vec<u8>, Fail> {
-    let mut peer = established(CLIENT, SERVER);
+    let mut peer = established(CLIENT, SERVER)?;
     let initial = QuicSecret::client_initial(Version::One, &ID)?;
-    peer.install_sender(Level::Initial, initial);
+    peer.install_sender(Level::Initial, initial)?;
     let mut datagram = sent(alloc, &mut peer, PacketType::Initial)?;
     if let Some(first) = datagram.first_mut() {
         *first &= 0xbf;
@@ -622,8 +641,8 @@ fn first_without_fixed_bit(alloc: Global) -> Result<Vec<u8>, Fail> {
 fn no_fixed_bit_in_first_packet(rt: HostRuntime) -> Result<(), Fail> {
     let mut datagram = first_without_fixed_bit(rt.alloc())?;
     let initial = QuicSecret::client_initial(Version::One, &ID)?;
-    let mut connection = established(SERVER, CLIENT);
-    connection.install_receiver(Level::Initial, initial);
+    let mut connection = established(SERVER, CLIENT)?;
+    connection.install_receiver(Level::Initial, initial)?;
     receives_one(&rt, rt.alloc(), connection, &mut datagram, 0)
 }
 
@@ -638,7 +657,7 @@ fn forged_first(alloc: Global) -> Result<Vec<u8>, Fail> {
 #[test]
 fn forged_first_packet(rt: HostRuntime) -> Result<(), Fail> {
     let mut datagram = forged_first(rt.alloc())?;
-    let connection = established(SERVER, CLIENT);
+    let connection = established(SERVER, CLIENT)?;
     receives_one(&rt, rt.alloc(), connection, &mut datagram, 1)?;
     let first = bytes_of(rt.alloc(), Forged(PacketType::Handshake))?;
     holds(&rt, datagram.starts_with(&first), "the forged packet");
@@ -702,8 +721,8 @@ fn updates_by_itself(rt: &impl Abort, alloc: Global, end: &mut Connection) -> Re
 // The last packets of a key, before the handshake is confirmed and after that.
 #[test]
 fn last_packets_of_a_key(rt: HostRuntime) -> Result<(), Fail> {
-    keeps_one_to_close(&rt, rt.alloc(), &mut established(SERVER, CLIENT))?;
-    updates_by_itself(&rt, rt.alloc(), &mut established(SERVER, CLIENT))
+    keeps_one_to_close(&rt, rt.alloc(), &mut established(SERVER, CLIENT)?)?;
+    updates_by_itself(&rt, rt.alloc(), &mut established(SERVER, CLIENT)?)
 }
 
 // An end without keys neither sends nor updates.
@@ -719,5 +738,65 @@ fn no_keys(rt: HostRuntime) -> Result<(), Fail> {
     let updated = end.update_keys();
     equal(&rt, &updated, &Err(KeyError::HandshakeUnconfirmed));
     holds(&rt, end.sender(Level::OneRtt).is_none(), "no sender");
+    Ok(())
+}
+
+/// Asserts that an end whose Handshake keys were dropped, and those of 0-RTT packets after them, ignores their packets, forged or
+/// not, and takes no keys for them.
+fn takes_none(rt: &impl Abort, alloc: Global, end: &mut Connection) -> Result<(), Fail> {
+    end.discard(Level::Handshake);
+    for arrival in [First(PacketType::Handshake), Forged(PacketType::Handshake)] {
+        becomes(rt, end, &mut bytes_of(alloc, arrival)?, &ID, Ok("ignored"));
+    }
+    for wanted in ["no keys", "ignored"] {
+        let mut packet = first_packet(alloc, PacketType::ZeroRtt)?;
+        becomes(rt, end, &mut packet, &ID, Ok(wanted));
+        end.discard_zero_rtt();
+    }
+    for installed in [
+        end.install_sender(Level::Handshake, secret(SERVER)),
+        end.install_receiver(Level::Handshake, secret(CLIENT)),
+        end.install_zero_rtt_receiver(secret(EARLY)),
+    ] {
+        equal(rt, &installed, &Err(KeyError::Discarded));
+    }
+    equal(rt, &end.failures(), &0);
+    Ok(())
+}
+
+// After keys are dropped, their packets are ignored, and none can be installed.
+#[test]
+fn dropped_keys(rt: HostRuntime) -> Result<(), Fail> {
+    takes_none(&rt, rt.alloc(), &mut established(SERVER, CLIENT)?)
+}
+
+/// The headers of forged packets for which an end has no keys, their level, their length, and how many of 200 it keeps.
+const FLOODS: [(&[u8], Level, usize, usize); 2] = [
+    (&HANDSHAKE, Level::Handshake, 40, 16),
+    (&ONE_RTT, Level::OneRtt, 1200, 3),
+];
+
+/// Receives 200 packets with this header and this length.
+fn receive_flood(alloc: Global, end: &mut End, header: &[u8], len: usize) -> Result<(), Fail> {
+    for _ in 0..200 {
+        let mut packet = Vec::from_slice(alloc, header)?;
+        packet.resize(len, 0)?;
+        receive(alloc, end, &mut packet, &ID)?;
+    }
+    Ok(())
+}
+
+// Of packets whose keys are still to come, an end keeps as many as it has room for, and of those whose keys were dropped none.
+#[test]
+fn floods(rt: HostRuntime) -> Result<(), Fail> {
+    for (header, level, len, kept) in &FLOODS {
+        let mut end = with_nothing_received(rt.alloc(), Connection::new(FixedBit::Required));
+        receive_flood(rt.alloc(), &mut end, header, *len)?;
+        equal(&rt, &end.kept.len(), kept);
+        end.connection.discard(*level);
+        receive_kept(rt.alloc(), &mut end)?;
+        receive_flood(rt.alloc(), &mut end, header, *len)?;
+        equal(&rt, &end.kept.len(), &0);
+    }
     Ok(())
 }

@@ -10,7 +10,7 @@ use std::fmt::Display;
 use std::process::Abort;
 use std::test::Fail;
 
-const KEY_ERRORS: [(KeyError, &str); 6] = [
+const KEY_ERRORS: [(KeyError, &str); 7] = [
     (
         KeyError::KeyLength,
         "the key does not have the length of the algorithm's keys",
@@ -28,6 +28,10 @@ const KEY_ERRORS: [(KeyError, &str); 6] = [
     (
         KeyError::PhaseUnacknowledged,
         "no packet of this key phase was acknowledged",
+    ),
+    (
+        KeyError::Discarded,
+        "the keys were dropped, so no others can be installed",
     ),
 ];
 

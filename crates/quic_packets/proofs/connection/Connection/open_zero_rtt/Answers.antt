@@ -14,6 +14,7 @@ returns-clause-received c =
       handshake = was.handshake;
       one_rtt = ends;
       zero_rtt = Some c.open_with.new.receiver;
+      zero_rtt_discarded = was.is_zero_rtt_discarded;
       failures = c.open_with.new.failures;
       limit = was.limit;
       fixed_bit = was.fixed_bit;

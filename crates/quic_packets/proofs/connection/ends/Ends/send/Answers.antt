@@ -20,7 +20,8 @@ returns-in_err-number-clause-refused c =
     let p = err_from_is_err_and c.from_residual.result c.from_residual.ensures.1 in
     let there : a.self.now.sender ≡ Some s = search rules in
     rw (p.1, p.2)
-    (subst (λ o. IfSome o (λ s. a.kept_back < left s → Refuses s Required a.number.start a.number.end a.packet.now (Err e))) (sym there)
+    (subst (λ o. IfSome o (λ s. a.kept_back < left s
+    → Refuses s Required a.number.start a.number.end a.packet.now (Err e))) (sym there)
     (λ more. (
     let unused : s.sealed < s.limit = omega (arith, more) in
     record {
