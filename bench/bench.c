@@ -115,7 +115,7 @@ static const row rows[] = {
     {"`deerlapse_key_seal`, 16 KiB", &calls, SEAL, {16, 32}, 16 * KIB, SPEED, 0},
     {"`deerlapse_key_open_separate_tag`, 1350 bytes", &calls, OPEN, {16, 32}, 1350, SPEED, 0},
     {"`deerlapse_chacha20`, 1350 bytes", &calls, CHACHA, {32}, 1350, SPEED, 0},
-    {"`deerlapse_key_mask`, AES-128", &calls, MASK, {16}, SAMPLE_LEN, TIME, 0},
+    {"`deerlapse_quic_header_key_mask`, AES-128", &calls, MASK, {16}, SAMPLE_LEN, TIME, 0},
     {"`deerlapse_mask_aes`, AES-128", &calls, MASK_ONCE, {16}, SAMPLE_LEN, TIME, 0},
     {"`deerlapse_mask_chacha20`", &calls, CHACHA_MASK_ONCE, {32}, SAMPLE_LEN, TIME, 0},
 #ifdef WITH_V3
@@ -129,7 +129,7 @@ static const row rows[] = {
     {"`deerlapse_key_open_separate_tag`, 250 bytes, v3", &calls_v3, OPEN, {16, 32}, 250, SPEED, 0},
     {"`deerlapse_key_open_separate_tag`, 1350 bytes, v3", &calls_v3, OPEN, {16, 32}, 1350, SPEED, 0},
     {"`deerlapse_key_open_separate_tag`, 16 KiB, v3", &calls_v3, OPEN, {16, 32}, 16 * KIB, SPEED, 0},
-    {"`deerlapse_key_mask`, AES-128, v3", &calls_v3, MASK, {16}, SAMPLE_LEN, TIME, 0},
+    {"`deerlapse_quic_header_key_mask`, AES-128, v3", &calls_v3, MASK, {16}, SAMPLE_LEN, TIME, 0},
 #endif
 };
 

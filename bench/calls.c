@@ -68,13 +68,13 @@ static uint64_t chacha(uint64_t times, const uint8_t *key, size_t key_len, uint8
     return first_bytes(buffer);
 }
 
-static uint64_t key_mask(uint64_t times, const uint8_t *key, size_t key_len, uint8_t *buffer, size_t len) {
-    deerlapse_key k;
+static uint64_t header_key_mask(uint64_t times, const uint8_t *key, size_t key_len, uint8_t *buffer, size_t len) {
+    deerlapse_quic_header_key k;
     uint8_t mask[MASK_LEN];
     (void)len;
-    if (!deerlapse_key_init(&k, key, key_len)) return 0;
+    if (!deerlapse_quic_header_key_init(&k, key, key_len)) return 0;
     for (uint64_t i = 0; i < times; i++) {
-        if (!deerlapse_key_mask(&k, buffer, mask)) return 0;
+        if (!deerlapse_quic_header_key_mask(&k, buffer, mask)) return 0;
         memcpy(buffer, mask, MASK_LEN);
     }
     return first_bytes(buffer);
@@ -107,7 +107,7 @@ const side calls = {{
     [OPEN_ONCE] = open_once,
     [GCM_KEY] = key_init,
     [CHACHA] = chacha,
-    [MASK] = key_mask,
+    [MASK] = header_key_mask,
     [MASK_ONCE] = mask_once,
     [CHACHA_MASK_ONCE] = chacha_mask_once,
 }};

@@ -597,12 +597,14 @@ static void null_keys(const sealing *s) {
     uint8_t tag[TAG] = {0}, other[TAG] = {0};
     size_t len = UNTOUCHED;
     deerlapse_key key;
+    deerlapse_quic_header_key header_key;
     deerlapse_sealer sealer;
     deerlapse_opener opener;
     CHECK(!CALL(deerlapse_seal(NULL, 0, s->nonce, NULL, 0, NULL, 0, tag)));
     CHECK(!CALL(deerlapse_open(NULL, 0, s->nonce, NULL, 0, NULL, 0, 0, &len)));
     CHECK(!CALL(deerlapse_key_init(&key, NULL, 0)));
     CHECK(!CALL(deerlapse_mask_aes(NULL, 0, other, tag)));
+    CHECK(!CALL(deerlapse_quic_header_key_init(&header_key, NULL, 0)));
     CHECK(!CALL(deerlapse_sealer_init(&sealer, NULL, 0, s->iv, 0, 1)));
     CHECK(!CALL(deerlapse_opener_init(&opener, NULL, 0, s->iv, 0, 1)));
     CHECK(CALL(deerlapse_chacha20(s->key, s->nonce, 0, NULL, 0)));
@@ -610,10 +612,10 @@ static void null_keys(const sealing *s) {
 }
 
 static void masks(void) {
-    static const deerlapse_key no_key;
+    static const deerlapse_quic_header_key no_key;
     static const uint8_t zeros[5];
     uint8_t key[32], sample[16], expected[5], *mask;
-    deerlapse_key expanded;
+    deerlapse_quic_header_key expanded, was;
     size_t key_len = below(2) ? 16 : 32;
     fill(key, 32);
     fill(sample, 16);
@@ -622,11 +624,17 @@ static void masks(void) {
     CHECK(CALL(deerlapse_mask_aes(key, key_len, sample, mask)));
     CHECK(memcmp(mask, expected, 5) == 0);
     CHECK(!CALL(deerlapse_mask_aes(key, 24, sample, mask)));
-    CHECK(!CALL(deerlapse_key_mask(&no_key, sample, mask)));
+    CHECK(!CALL(deerlapse_quic_header_key_mask(&no_key, sample, mask)));
     CHECK(memcmp(mask, expected, 5) == 0);
     memset(mask, 0, 5);
-    CHECK(CALL(deerlapse_key_init(&expanded, key, key_len)));
-    CHECK(CALL(deerlapse_key_mask(&expanded, sample, mask)));
+    memset(&expanded, 0xff, sizeof expanded);
+    CHECK(CALL(deerlapse_quic_header_key_init(&expanded, key, key_len)));
+    CHECK(CALL(deerlapse_quic_header_key_mask(&expanded, sample, mask)));
+    CHECK(memcmp(mask, expected, 5) == 0);
+    was = expanded;
+    CHECK(!CALL(deerlapse_quic_header_key_init(&expanded, key, 24)) && SAME(expanded, was));
+    CALL(deerlapse_quic_header_key_wipe(&expanded));
+    CHECK(SAME(expanded, no_key) && !CALL(deerlapse_quic_header_key_mask(&expanded, sample, mask)));
     CHECK(memcmp(mask, expected, 5) == 0);
 
     expect_chacha20_mask(key, sample, expected);

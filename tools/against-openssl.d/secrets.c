@@ -339,14 +339,14 @@ static void next_secrets(void) {
 static void header_keys(void) {
     const protocol *by = some_quic();
     size_t secret_len = digest_len(), len = secret_len == 32 ? 16 : 32;
-    const uint8_t *secret = part(secret_len), *sample = part(16), *was = part(sizeof(deerlapse_key));
+    const uint8_t *secret = part(secret_len), *sample = part(16), *was = part(sizeof(deerlapse_quic_header_key));
     uint8_t bytes[32], expected[16], mask[5];
-    deerlapse_key *key = (void *)guarded(was, sizeof *key);
+    deerlapse_quic_header_key *key = (void *)guarded(was, sizeof *key);
     CHECK(!CALL(deerlapse_quic_header_key_from_secret(key, no_version(), secret, secret_len)));
     CHECK(!CALL(deerlapse_quic_header_key_from_secret(key, by->number, secret, no_digest_len())));
     CHECK(memcmp(key, was, sizeof *key) == 0);
     CHECK(CALL(deerlapse_quic_header_key_from_secret(key, by->number, secret, secret_len)));
-    CHECK(CALL(deerlapse_key_mask(key, sample, mask)));
+    CHECK(CALL(deerlapse_quic_header_key_mask(key, sample, mask)));
     expect_word(secret, secret_len, by->header_key, bytes, len);
     expect_mask(bytes, len, sample, expected);
     CHECK(memcmp(mask, expected, 5) == 0);
@@ -679,7 +679,7 @@ static void null_derivations(void) {
 static void null_secrets(void) {
     deerlapse_quic_key packets;
     deerlapse_record_key records;
-    deerlapse_key headers;
+    deerlapse_quic_header_key headers;
     uint8_t client[32], server[32], expected[32];
     CHECK(CALL(deerlapse_quic_initial_secrets(1, NULL, 0, client, server)));
     expect_extract(quic[0].salt, 20, pool, 0, expected, 32);
@@ -688,6 +688,7 @@ static void null_secrets(void) {
     CHECK(SAME(server, expected));
     CHECK(!CALL(deerlapse_quic_key_init(&packets, NULL, 0, pool)));
     CHECK(!CALL(deerlapse_quic_key_from_secret(&packets, 1, NULL, 0)));
+    CHECK(!CALL(deerlapse_quic_header_key_init(&headers, NULL, 0)));
     CHECK(!CALL(deerlapse_quic_header_key_from_secret(&headers, 1, NULL, 0)));
     CHECK(!CALL(deerlapse_record_key_init(&records, NULL, 0, pool)));
     CHECK(!CALL(deerlapse_record_key_from_secret(&records, NULL, 0)));

@@ -374,9 +374,9 @@ static void of_update(const update *u) {
  * 5.4.2). */
 static void mask(const packet *p, const bytes *secret, uint8_t *all, size_t header_len) {
     uint8_t bits[DEERLAPSE_MASK_LEN];
-    deerlapse_key key;
+    deerlapse_quic_header_key key;
     CHECK(deerlapse_quic_header_key_from_secret(&key, p->version, secret->at, secret->len));
-    CHECK(deerlapse_key_mask(&key, all + p->number_at + 4, bits));
+    CHECK(deerlapse_quic_header_key_mask(&key, all + p->number_at + 4, bits));
     all[0] ^= bits[0] & 0x0f;
     for (size_t i = p->number_at; i < header_len; i++) all[i] ^= bits[1 + i - p->number_at];
 }

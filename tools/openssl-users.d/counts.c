@@ -91,9 +91,9 @@ WRAPS(bool, deerlapse_key_finish, (const deerlapse_key *key, deerlapse_message *
     return seals(__real_deerlapse_key_finish(key, message, tag), 0);
 }
 
-WRAPS(bool, deerlapse_key_mask, (const deerlapse_key *key, const uint8_t *sample, uint8_t *mask)) {
+WRAPS(bool, deerlapse_quic_header_key_mask, (const deerlapse_quic_header_key *key, const uint8_t *sample, uint8_t *mask)) {
     masks++;
-    return __real_deerlapse_key_mask(key, sample, mask);
+    return __real_deerlapse_quic_header_key_mask(key, sample, mask);
 }
 
 WRAPS(bool, deerlapse_hkdf_extract,

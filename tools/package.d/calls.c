@@ -16,11 +16,12 @@ static size_t left(const void *bytes, size_t len) {
 /* Each struct is initialized in memory without zeros, and wiped. */
 static size_t left_by_wipes(void) {
     struct {
-        deerlapse_key key, header_key;
+        deerlapse_key key;
         deerlapse_xaes xaes;
         deerlapse_sealer sealer;
         deerlapse_opener opener;
         deerlapse_quic_key quic_key;
+        deerlapse_quic_header_key header_key;
         deerlapse_record_key record_key;
     } all;
     memset(&all, 0xff, sizeof all);
@@ -34,11 +35,11 @@ static size_t left_by_wipes(void) {
         return SIZE_MAX;
     }
     deerlapse_key_wipe(&all.key);
-    deerlapse_key_wipe(&all.header_key);
     deerlapse_xaes_wipe(&all.xaes);
     deerlapse_sealer_wipe(&all.sealer);
     deerlapse_opener_wipe(&all.opener);
     deerlapse_quic_key_wipe(&all.quic_key);
+    deerlapse_quic_header_key_wipe(&all.header_key);
     deerlapse_record_key_wipe(&all.record_key);
     return left(&all, sizeof all);
 }
@@ -52,6 +53,7 @@ typedef struct {
     deerlapse_sealer sealer;
     deerlapse_opener opener;
     deerlapse_quic_key packets;
+    deerlapse_quic_header_key headers;
     deerlapse_record_key records;
     deerlapse_xaes xaes;
     uint8_t in[64], out[64], tag[DEERLAPSE_TAG_LEN], xaes_in[64], xaes_tag[DEERLAPSE_TAG_LEN], type;
@@ -68,6 +70,7 @@ static bool give(given *g) {
            deerlapse_sealer_init(&g->sealer, secret, 32, nonce, 1, 2) &&
            deerlapse_opener_init(&g->opener, secret, 32, nonce, 1, 2) &&
            deerlapse_quic_key_init(&g->packets, secret, 32, nonce) &&
+           deerlapse_quic_header_key_init(&g->headers, secret, 32) &&
            deerlapse_record_key_init(&g->records, secret, 32, nonce);
 }
 
@@ -206,6 +209,7 @@ static bool refuses_keys(given *g, size_t len) {
            !deerlapse_sealer_init(&g->sealer, secret, len, nonce, 1, 2) &&
            !deerlapse_opener_init(&g->opener, secret, len, nonce, 1, 2) &&
            !deerlapse_quic_key_init(&g->packets, secret, len, nonce) &&
+           !deerlapse_quic_header_key_init(&g->headers, secret, len) &&
            !deerlapse_record_key_init(&g->records, secret, len, nonce) &&
            !deerlapse_mask_aes(secret, len, g->in, g->out);
 }
@@ -217,7 +221,7 @@ static bool refuses_secrets(given *g, size_t len) {
            !deerlapse_hkdf_expand(secret, len, nonce, 12, g->out, 32) &&
            !deerlapse_hkdf_expand_label(secret, len, nonce, 12, NULL, 0, g->out, 32) &&
            !deerlapse_quic_key_from_secret(&g->packets, DEERLAPSE_QUIC_V1, secret, len) &&
-           !deerlapse_quic_header_key_from_secret(&g->key, DEERLAPSE_QUIC_V1, secret, len) &&
+           !deerlapse_quic_header_key_from_secret(&g->headers, DEERLAPSE_QUIC_V1, secret, len) &&
            !deerlapse_quic_next_secret(DEERLAPSE_QUIC_V1, g->out, len) &&
            !deerlapse_record_key_from_secret(&g->records, secret, len) && !deerlapse_tls_next_secret(g->out, len);
 }
@@ -339,7 +343,7 @@ static bool refuses_long(void) {
 static bool takes_nulls(void) {
     uint8_t out[64] = {0}, tag[DEERLAPSE_TAG_LEN], type = 0;
     size_t opened = 1;
-    deerlapse_key headers;
+    deerlapse_quic_header_key headers;
     deerlapse_quic_key packets;
     deerlapse_record_key records;
     return deerlapse_hmac(NULL, 0, NULL, 0, out, 32) && !deerlapse_hmac(NULL, 0, NULL, 0, NULL, 0) &&
@@ -349,6 +353,7 @@ static bool takes_nulls(void) {
            !deerlapse_hkdf_expand_label(NULL, 0, NULL, 0, NULL, 0, out, 1) &&
            deerlapse_quic_initial_secrets(DEERLAPSE_QUIC_V1, NULL, 0, out, out + 32) &&
            !deerlapse_quic_next_secret(DEERLAPSE_QUIC_V1, NULL, 0) && !deerlapse_tls_next_secret(NULL, 0) &&
+           !deerlapse_quic_header_key_init(&headers, NULL, 0) &&
            !deerlapse_quic_header_key_from_secret(&headers, DEERLAPSE_QUIC_V1, NULL, 0) &&
            !deerlapse_quic_key_from_secret(&packets, DEERLAPSE_QUIC_V1, NULL, 0) &&
            !deerlapse_quic_key_init(&packets, NULL, 0, nonce) && !deerlapse_record_key_init(&records, NULL, 0, nonce) &&

@@ -101,7 +101,7 @@ COUNTED(derived, deerlapse_record_key_from_secret, (void *key, const uint8_t *se
         (key, secret, secret_len))
 COUNTED(derived, deerlapse_tls_next_secret, (uint8_t *secret, size_t secret_len), (secret, secret_len))
 
-COUNTED(masks, deerlapse_key_mask, (const void *key, const uint8_t *sample, uint8_t *mask), (key, sample, mask))
+COUNTED(masks, deerlapse_quic_header_key_mask, (const void *key, const uint8_t *sample, uint8_t *mask), (key, sample, mask))
 
 void uncounted_deerlapse_mask_chacha20(const uint8_t *key, const uint8_t *sample, uint8_t *mask);
 void deerlapse_mask_chacha20(const uint8_t *key, const uint8_t *sample, uint8_t *mask);

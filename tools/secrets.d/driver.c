@@ -188,10 +188,12 @@ static void encrypts(size_t len) {
 static void masks(size_t key_len) {
     uint8_t *key = secret(key_len), *chacha_key = secret(32), *sample = secret(DEERLAPSE_SAMPLE_LEN);
     uint8_t *mask = secret(DEERLAPSE_MASK_LEN);
-    deerlapse_key expanded;
+    deerlapse_quic_header_key expanded;
     CHECK(deerlapse_mask_aes(key, key_len, sample, mask));
-    CHECK(deerlapse_key_init(&expanded, key, key_len));
-    CHECK(deerlapse_key_mask(&expanded, sample, mask));
+    CHECK(deerlapse_quic_header_key_init(&expanded, key, key_len));
+    CHECK(deerlapse_quic_header_key_mask(&expanded, sample, mask));
+    deerlapse_quic_header_key_wipe(&expanded);
+    CHECK(!deerlapse_quic_header_key_mask(&expanded, sample, mask));
     deerlapse_mask_chacha20(chacha_key, sample, mask);
     free(mask);
     free(sample);
@@ -221,9 +223,9 @@ static void protects_packets(size_t secret_len, size_t len) {
     uint8_t *bytes = secret(secret_len), *iv = secret(NONCE), *header = secret(20), *sample = secret(DEERLAPSE_SAMPLE_LEN);
     uint8_t *payload = secret(len + TAG), *mask = secret(DEERLAPSE_MASK_LEN);
     deerlapse_quic_key key;
-    deerlapse_key header_key;
+    deerlapse_quic_header_key header_key;
     CHECK(deerlapse_quic_header_key_from_secret(&header_key, DEERLAPSE_QUIC_V2, bytes, secret_len));
-    CHECK(deerlapse_key_mask(&header_key, sample, mask));
+    CHECK(deerlapse_quic_header_key_mask(&header_key, sample, mask));
     for (int by_secret = 0; by_secret < 2; by_secret++) {
         CHECK(by_secret ? deerlapse_quic_key_from_secret(&key, DEERLAPSE_QUIC_V1, bytes, secret_len)
                         : deerlapse_quic_key_init(&key, bytes, secret_len == 32 ? 16 : 32, iv));

@@ -20,6 +20,7 @@ typedef struct {
     deerlapse_sealer sealer;
     deerlapse_opener opener;
     deerlapse_quic_key quic_key;
+    deerlapse_quic_header_key quic_header_key;
     deerlapse_record_key record_key;
     uint8_t secret[DEERLAPSE_SHA384_LEN], other[DEERLAPSE_SHA384_LEN], content_type;
 } arguments;
@@ -53,7 +54,6 @@ static bool key_open_appended_tag(void) {
 static bool key_begin(void) { return deerlapse_key_begin(&at->key, at->nonce, at->aad, AAD, &at->message); }
 static bool key_update(void) { return deerlapse_key_update(&at->key, &at->message, at->buffer, at->len); }
 static bool key_finish(void) { return deerlapse_key_finish(&at->key, &at->message, at->tag); }
-static bool key_mask(void) { return deerlapse_key_mask(&at->key, at->sample, at->mask); }
 static bool xaes_init(void) { return deerlapse_xaes_init(&at->xaes, at->bytes), true; }
 static bool xaes_wipe(void) { return deerlapse_xaes_wipe(&at->xaes), true; }
 static bool xaes_seal(void) {
@@ -132,9 +132,16 @@ static bool quic_key_init(void) {
 static bool quic_key_from_secret(void) {
     return deerlapse_quic_key_from_secret(&at->quic_key, DEERLAPSE_QUIC_V1, at->secret, secret_len());
 }
-static bool quic_header_key_from_secret(void) {
-    return deerlapse_quic_header_key_from_secret(&at->key, DEERLAPSE_QUIC_V1, at->secret, secret_len());
+static bool quic_header_key_init(void) {
+    return deerlapse_quic_header_key_init(&at->quic_header_key, at->bytes, at->key_len);
 }
+static bool quic_header_key_from_secret(void) {
+    return deerlapse_quic_header_key_from_secret(&at->quic_header_key, DEERLAPSE_QUIC_V1, at->secret, secret_len());
+}
+static bool quic_header_key_mask(void) {
+    return deerlapse_quic_header_key_mask(&at->quic_header_key, at->sample, at->mask);
+}
+static bool quic_header_key_wipe(void) { return deerlapse_quic_header_key_wipe(&at->quic_header_key), true; }
 static bool quic_initial_secrets(void) {
     return deerlapse_quic_initial_secrets(DEERLAPSE_QUIC_V1, at->aad, 20, at->secret, at->other);
 }
@@ -183,7 +190,6 @@ static const named calls[] = {{"deerlapse_key_init", key_init, NULL},
                               {"deerlapse_key_begin", key_begin, key_init},
                               {"deerlapse_key_update", key_update, key_begun},
                               {"deerlapse_key_finish", key_finish, key_updated},
-                              {"deerlapse_key_mask", key_mask, key_init},
                               {"deerlapse_key_wipe", key_wipe, key_init},
                               {"deerlapse_xaes_init", xaes_init, NULL},
                               {"deerlapse_xaes_seal", xaes_seal, xaes_init},
@@ -215,7 +221,10 @@ static const named calls[] = {{"deerlapse_key_init", key_init, NULL},
                               {"deerlapse_hkdf_expand_label", hkdf_expand_label, NULL},
                               {"deerlapse_quic_key_init", quic_key_init, NULL},
                               {"deerlapse_quic_key_from_secret", quic_key_from_secret, NULL},
+                              {"deerlapse_quic_header_key_init", quic_header_key_init, NULL},
                               {"deerlapse_quic_header_key_from_secret", quic_header_key_from_secret, NULL},
+                              {"deerlapse_quic_header_key_mask", quic_header_key_mask, quic_header_key_init},
+                              {"deerlapse_quic_header_key_wipe", quic_header_key_wipe, quic_header_key_init},
                               {"deerlapse_quic_initial_secrets", quic_initial_secrets, NULL},
                               {"deerlapse_quic_next_secret", quic_next_secret, NULL},
                               {"deerlapse_quic_key_seal", quic_key_seal, quic_key_init},

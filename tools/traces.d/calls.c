@@ -9,6 +9,7 @@ static deerlapse_message in_pieces;
 static deerlapse_sealer sealer;
 static deerlapse_opener opener;
 static deerlapse_quic_key quic_key;
+static deerlapse_quic_header_key quic_header_key;
 static deerlapse_record_key record_key;
 static uint8_t content_type;
 static uint8_t mask[DEERLAPSE_MASK_LEN];
@@ -76,7 +77,6 @@ static bool key_open_appended_tag(void) {
     return deerlapse_key_open_appended_tag(&key, nonce, aad, AAD, other, len + TAG, message);
 }
 static bool key_refuse_appended_tag(void) { return !key_open_appended_tag(); }
-static bool key_mask(void) { return deerlapse_key_mask(&key, sample, mask); }
 
 static bool xaes_init(void) {
     deerlapse_xaes_init(&xaes, key_bytes);
@@ -198,8 +198,16 @@ static bool quic_key_init(void) { return deerlapse_quic_key_init(&quic_key, key_
 static bool quic_key_from_secret(void) {
     return deerlapse_quic_key_from_secret(&quic_key, DEERLAPSE_QUIC_V1, secret, secret_len());
 }
+static bool quic_header_key_init(void) {
+    return deerlapse_quic_header_key_init(&quic_header_key, header_key, key_len);
+}
 static bool quic_header_key_from_secret(void) {
-    return deerlapse_quic_header_key_from_secret(&key, DEERLAPSE_QUIC_V2, secret, secret_len());
+    return deerlapse_quic_header_key_from_secret(&quic_header_key, DEERLAPSE_QUIC_V2, secret, secret_len());
+}
+static bool quic_header_key_mask(void) { return deerlapse_quic_header_key_mask(&quic_header_key, sample, mask); }
+static bool quic_header_key_wipe(void) {
+    deerlapse_quic_header_key_wipe(&quic_header_key);
+    return true;
 }
 static bool quic_initial_secrets(void) {
     return deerlapse_quic_initial_secrets(DEERLAPSE_QUIC_V1, message, 20, other, other + DEERLAPSE_SHA256_LEN);
@@ -266,7 +274,6 @@ static const traced_call calls[] = {
     {"deerlapse_key_update", key_update, key_begun, true},
     {"deerlapse_key_update,next", key_update, key_updated_shortly, true},
     {"deerlapse_key_finish", key_finish, key_updated, true},
-    {"deerlapse_key_mask", key_mask, key_init, false},
     {"deerlapse_xaes_init", xaes_init, NULL, false},
     {"deerlapse_xaes_wipe", xaes_wipe, xaes_init, false},
     {"deerlapse_xaes_seal", xaes_seal, xaes_init, true},
@@ -306,7 +313,10 @@ static const traced_call calls[] = {
     {"deerlapse_hkdf_expand_label", hkdf_expand_label, NULL, false},
     {"deerlapse_quic_key_init", quic_key_init, NULL, false},
     {"deerlapse_quic_key_from_secret", quic_key_from_secret, NULL, false},
+    {"deerlapse_quic_header_key_init", quic_header_key_init, NULL, false},
     {"deerlapse_quic_header_key_from_secret", quic_header_key_from_secret, NULL, false},
+    {"deerlapse_quic_header_key_mask", quic_header_key_mask, quic_header_key_init, false},
+    {"deerlapse_quic_header_key_wipe", quic_header_key_wipe, quic_header_key_init, false},
     {"deerlapse_quic_initial_secrets", quic_initial_secrets, NULL, false},
     {"deerlapse_quic_next_secret", quic_next_secret, NULL, false},
     {"deerlapse_quic_key_seal", quic_key_seal, quic_key_init, true},

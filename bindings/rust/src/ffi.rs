@@ -41,6 +41,13 @@ pub(crate) struct QuicKey {
     pub(crate) words: [u64; 401],
 }
 
+/// `deerlapse_quic_header_key`.
+#[repr(C)]
+#[derive(Clone)]
+pub(crate) struct QuicHeaderKey {
+    pub(crate) words: [u64; 31],
+}
+
 /// `deerlapse_record_key`.
 #[repr(C)]
 #[derive(Clone)]
@@ -380,13 +387,6 @@ functions! {
         secret_len: usize,
     ) -> bool;
 
-    fn quic_header_key_from_secret(
-        key: *mut Key,
-        version: u32,
-        secret: *const u8,
-        secret_len: usize,
-    ) -> bool;
-
     fn quic_initial_secrets(
         version: u32,
         id: *const u8,
@@ -415,6 +415,13 @@ functions! {
         payload: *mut u8,
         payload_len: usize,
         plaintext_len: &mut usize,
+    ) -> bool;
+
+    fn quic_header_key_from_secret(
+        key: *mut QuicHeaderKey,
+        version: u32,
+        secret: *const u8,
+        secret_len: usize,
     ) -> bool;
 
     fn record_key_init(
@@ -457,8 +464,6 @@ functions! {
 
     fn version() -> u32;
 
-    fn key_mask(key: &Key, sample: &[u8; 16], mask: &mut [u8; 5]) -> bool;
-
     fn key_wipe(key: &mut Key);
 
     fn xaes_wipe(key: &mut Xaes);
@@ -472,6 +477,16 @@ functions! {
     fn opener_wipe(opener: &mut Opener);
 
     fn quic_key_wipe(key: &mut QuicKey);
+
+    fn quic_header_key_init(key: *mut QuicHeaderKey, bytes: *const u8, len: usize) -> bool;
+
+    fn quic_header_key_mask(
+        key: &QuicHeaderKey,
+        sample: &[u8; 16],
+        mask: &mut [u8; 5],
+    ) -> bool;
+
+    fn quic_header_key_wipe(key: &mut QuicHeaderKey);
 
     fn record_key_wipe(key: &mut RecordKey);
 

@@ -5,8 +5,8 @@ use core::fmt;
 
 /// An AES key of QUIC's header protection (RFC 9001 section 5.4.3), which is expanded once and makes many masks.
 ///
-/// It is about 3 kilobytes of plain data, which threads may share, and is wiped when it is dropped; if it was moved, its
-/// bytes may remain where it was before. [`mask_chacha20`](crate::mask_chacha20) has nothing to expand.
+/// It is 248 bytes of plain data, which threads may share, and is wiped when it is dropped; if it was moved, its bytes may
+/// remain where it was before. [`mask_chacha20`](crate::mask_chacha20) has nothing to expand.
 ///
 /// ```
 /// use deerlapse::HeaderProtectionKey;
@@ -19,7 +19,7 @@ use core::fmt;
 /// # Ok::<(), deerlapse::Unspecified>(())
 /// ```
 #[derive(Clone)]
-pub struct HeaderProtectionKey(ffi::Key);
+pub struct HeaderProtectionKey(ffi::QuicHeaderKey);
 
 impl HeaderProtectionKey {
     /// Creates a key from 16 bytes, for AES-128, or 32, for AES-256.
@@ -40,7 +40,11 @@ impl HeaderProtectionKey {
     #[inline]
     pub fn new(key_bytes: &[u8]) -> Result<Self, Unspecified> {
         cpu::require();
-        Ok(HeaderProtectionKey(ffi::Key::new(key_bytes)?))
+        // SAFETY: the pointer and its length are those of one slice. A call that returns true wrote the whole key.
+        let key = unsafe {
+            initialized(|key| ffi::quic_header_key_init(key, key_bytes.as_ptr(), key_bytes.len()))
+        };
+        Ok(HeaderProtectionKey(key?))
     }
 
     /// Creates the key of a secret (RFC 9001 section 5.1, RFC 9369 section 3.3.2), which has 32 bytes for
@@ -88,9 +92,16 @@ impl HeaderProtectionKey {
     pub fn new_mask(&self, sample: &[u8; SAMPLE_LEN]) -> [u8; MASK_LEN] {
         let mut mask = [0; MASK_LEN];
         // SAFETY: the parameters are references, and `new` or `from_secret` filled the key.
-        let made = unsafe { ffi::key_mask(&self.0, sample, &mut mask) };
+        let made = unsafe { ffi::quic_header_key_mask(&self.0, sample, &mut mask) };
         accepted(made).expect("the key is not zeros");
         mask
+    }
+}
+
+impl Drop for ffi::QuicHeaderKey {
+    fn drop(&mut self) {
+        // SAFETY: the parameter is a reference.
+        unsafe { ffi::quic_header_key_wipe(self) };
     }
 }
 

@@ -7,9 +7,9 @@ enum { NUMBER_AT = 18, HEADER_LEN = 20, PAYLOAD_LEN = 5, NUMBER = 7 };
 
 /* XORs the bits of the header that a mask covers: of a long header four bits of the first byte, and the packet number, of two
  * bytes here (RFC 9001 section 5.4.1). The sample begins four bytes after the number. */
-static bool mask(const deerlapse_key *header_key, uint8_t *packet) {
+static bool mask(const deerlapse_quic_header_key *header_key, uint8_t *packet) {
     uint8_t bytes[DEERLAPSE_MASK_LEN];
-    if (!deerlapse_key_mask(header_key, packet + NUMBER_AT + 4, bytes)) return false;
+    if (!deerlapse_quic_header_key_mask(header_key, packet + NUMBER_AT + 4, bytes)) return false;
     packet[0] ^= bytes[0] & 0x0f;
     packet[NUMBER_AT] ^= bytes[1];
     packet[NUMBER_AT + 1] ^= bytes[2];
@@ -22,7 +22,7 @@ int main(void) {
     uint8_t packet[HEADER_LEN + PAYLOAD_LEN + DEERLAPSE_TAG_LEN] = {0xc1, 0, 0, 0, 1, sizeof id};
     uint8_t client[DEERLAPSE_SHA256_LEN], server[DEERLAPSE_SHA256_LEN], *payload = packet + HEADER_LEN;
     deerlapse_quic_key key = {{0}};
-    deerlapse_key header_key = {{0}};
+    deerlapse_quic_header_key header_key = {{0}};
     size_t len;
 
     memcpy(packet + 6, id, sizeof id);
@@ -44,7 +44,7 @@ int main(void) {
         mask(&header_key, packet) && packet[NUMBER_AT + 1] == NUMBER &&
         deerlapse_quic_key_open(&key, NUMBER, packet, HEADER_LEN, payload, PAYLOAD_LEN + DEERLAPSE_TAG_LEN, &len);
     deerlapse_quic_key_wipe(&key);
-    deerlapse_key_wipe(&header_key);
+    deerlapse_quic_header_key_wipe(&header_key);
     if (!opened) return 1;
     printf("opened: %.*s\n", (int)len, (const char *)payload);
     return 0;

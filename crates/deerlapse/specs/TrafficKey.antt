@@ -1,9 +1,8 @@
 -- A `TrafficKey`, which protects the packets or the records of one direction of a connection, and the secrets that give it.
 use Rattle.std.specs.Prelude.{◌≡◌, ◌≢◌, ℕ, ◌⊎◌, ◌==◌, ◌≤◌, ◌+◌, ◌^◌, ◌↔◌, if◌then◌else◌, Bool, List, length, take, replicate, IsTrue, IsFalse, IsSome, IfSome}
 use Rattle.aead_ciphers_wide.specs.ExpandedKey.{HasZerosAfter, IsExpanded, bytes_of, zero_key}
-use Rattle.aead_ciphers_wide.specs.declared.aes_gcm.ExpandedKey.{ExpandedKey}
 use Rattle.key_derivation.specs.Hash.{HashFunction}
-use Rattle.key_derivation.specs.Quic.{QuicSecretState, numbered_version, quic_header_key, quic_iv, quic_key}
+use Rattle.key_derivation.specs.Quic.{QuicSecretState, numbered_version, quic_iv, quic_key}
 use Rattle.key_derivation.specs.Secret.{SecretState, suite_hash}
 use Rattle.key_derivation.specs.Tls.{record_iv, record_key}
 use Rattle.key_derivation.specs.declared.quic.Version.{Version}
@@ -41,12 +40,6 @@ pub record IsTrafficKey (key : TrafficKey) (bytes iv : List ℕ) : Type 0 where
 -- the key that protects the packets of a secret of QUIC (RFC 9001 section 5.1, RFC 9369 section 3.3.2)
 abbrev pub IsPacketKey : TrafficKey → QuicSecretState → Type 0
 IsPacketKey key s = IsTrafficKey key (quic_key s) (quic_iv s)
-
--- the key that masks their headers
-pub record IsHeaderKey (key : ExpandedKey) (s : QuicSecretState) : Type 0 where
-  pub expanded : IsExpanded key
-  pub unused : HasZerosAfter key
-  pub bytes_are : bytes_of key ≡ quic_header_key s
 
 -- the key that protects the records of a traffic secret (RFC 8446 section 7.3)
 abbrev pub IsRecordKey : TrafficKey → SecretState → Type 0

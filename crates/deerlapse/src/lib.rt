@@ -9,6 +9,7 @@
 
 mod aes_gcm;
 mod chacha20;
+mod header_key;
 mod hkdf;
 mod key;
 mod masks;

@@ -2,15 +2,12 @@
 
 ghost use Rattle.std.specs.Prelude.{◌≡◌, ◌↔◌, length, IsTrue, IsFalse};
 ghost use Rattle.aead_ciphers_base.specs.Mask.{aes_mask, chacha_mask};
-ghost use Rattle.aead_ciphers_wide.specs.ExpandedKey.{bytes_of};
-ghost use Rattle.deerlapse.specs.AesKey.{HasRounds, IsAesKeyLen, IsKeyOrNone};
+ghost use Rattle.deerlapse.specs.AesKey.{IsAesKeyLen};
 
-use crate::key::has_rounds;
 use aead_ciphers::aead::quic::Sample;
 use aead_ciphers_base::aes::KeyBytes;
 use aead_ciphers_base::chacha;
 use aead_ciphers_wide::aes::BlockKey;
-use aead_ciphers_wide::aes_gcm::ExpandedKey;
 
 /// Writes the header protection mask for a sample of 16 bytes, with AES-128 for a key of 16 bytes and with AES-256 for one of
 /// 32 (RFC 9001 section 5.4.3).
@@ -26,23 +23,6 @@ pub extern "C" fn deerlapse_mask_aes(key: &[u8], sample: &Sample, mask: &mut [u8
         return false
     };
     *mask = BlockKey::new(key).new_mask(*sample);
-    true
-}
-
-/// Writes the header protection mask for a sample of 16 bytes, with the AES key of an expanded key (RFC 9001 section 5.4.3).
-///
-/// Returns false if the key is all zeros.
-#[unsafe(no_mangle)]
-pub extern "C" fn deerlapse_key_mask(key: &ExpandedKey, sample: &Sample, mask: &mut [u8; 5]) -> bool
-    requires { IsKeyOrNone key.now }
-    ensures accepted { IsTrue result ↔ HasRounds key.now }
-    ensures mask { IsTrue result → mask.new ≡ aes_mask (bytes_of key.now) sample.now }
-    ensures refused { IsFalse result → mask.new ≡ mask.old }
-{
-    if !has_rounds(key) {
-        return false;
-    }
-    *mask = key.new_mask(*sample);
     true
 }
 

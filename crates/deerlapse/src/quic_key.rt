@@ -8,14 +8,12 @@ ghost use Rattle.aead_ciphers_wide.specs.ExpandedKey.{bytes_of};
 ghost use Rattle.aead_ciphers_wide.specs.Width.{width_bits};
 ghost use Rattle.key_derivation.specs.Quic.{client_initial_secret, next_quic_secret, numbered_version, server_initial_secret};
 ghost use Rattle.deerlapse.specs.AesKey.{HasRounds, IsKeyOrNone};
-ghost use Rattle.deerlapse.specs.TrafficKey.{DerivesQuicKey, InitializesTrafficKey, IsDigestLen, IsHeaderKey, IsPacketKey, quic_secret_of, zero_traffic_key};
+ghost use Rattle.deerlapse.specs.TrafficKey.{DerivesQuicKey, InitializesTrafficKey, IsDigestLen, IsPacketKey, quic_secret_of, zero_traffic_key};
 
 use crate::key::{deerlapse_key_open, deerlapse_key_seal, width};
 use crate::traffic_key::{SHA_256_LEN, TrafficKey, fill, secret_of, wipe};
 use aead_ciphers::aead::{MAX_TAG_LEN, NONCE_LEN, nonce_of};
-use aead_ciphers_base::aes::{KeyBytes, Work};
 use aead_ciphers_wide::aes::Width;
-use aead_ciphers_wide::aes_gcm::ExpandedKey;
 use key_derivation::quic::{QuicSecret, Version};
 
 /// The end of the packet numbers (RFC 9000 section 12.3).
@@ -65,46 +63,8 @@ pub(crate) fn fill_from_secret(
     let Some(secret) = secret_of(secret) else {
         return false
     };
-    let keys = QuicSecret::new(version, secret).keys();
+    let keys = QuicSecret::new(version, secret).packet_keys();
     fill(key, keys.key.as_slice(), &keys.iv, width)
-}
-
-/// Expands the key that masks the headers of a secret, for `deerlapse_key_mask`. Its previous bytes are not read.
-///
-/// Returns false if the version is neither 1 nor 2, or if the secret does not have 32 or 48 bytes.
-#[unsafe(no_mangle)]
-pub extern "C" fn deerlapse_quic_header_key_from_secret(
-    key: &mut ExpandedKey,
-    version: u32,
-    secret: &[u8],
-) -> bool
-    ensures { DerivesQuicKey IsHeaderKey version secret.now key.old result key.new }
-{
-    expand_header_key(key, version, secret, width())
-}
-
-/// Expands the header key of a secret, for planes of this width.
-pub(crate) fn expand_header_key(
-    key: &mut ExpandedKey,
-    version: u32,
-    secret: &[u8],
-    width: Width,
-) -> bool
-    ensures derives { DerivesQuicKey IsHeaderKey version secret.now key.old result key.new }
-    ensures width { IsTrue result → key.new.width ≡ width_bits width }
-{
-    let Some(version) = Version::from_number(version) else {
-        return false
-    };
-    let Some(secret) = secret_of(secret) else {
-        return false
-    };
-    let keys = QuicSecret::new(version, secret).keys();
-    let Ok(bytes) = KeyBytes::from_slice(keys.header_key.as_slice()) else {
-        unreachable!();
-    };
-    key.expand_with_width(bytes, width, &mut Work::new());
-    true
 }
 
 /// Writes the secrets of the Initial packets that a client and a server send, from the Destination Connection ID of the client's

@@ -2,22 +2,25 @@
 //! 4231 section 4.3.
 
 ghost use Rattle.deerlapse.specs.AesKey.{IsKeyOrNone};
+ghost use Rattle.deerlapse.specs.HeaderKey.{IsHeaderKeyOrNone};
 
+use crate::header_key::{
+    HeaderKey, deerlapse_quic_header_key_from_secret, deerlapse_quic_header_key_init,
+    deerlapse_quic_header_key_mask, deerlapse_quic_header_key_wipe,
+};
 use crate::hkdf::{
     deerlapse_hkdf_expand, deerlapse_hkdf_expand_label, deerlapse_hkdf_extract, deerlapse_hmac,
 };
-use crate::masks::deerlapse_key_mask;
 use crate::quic_key::{
-    self, deerlapse_quic_header_key_from_secret, deerlapse_quic_initial_secrets,
-    deerlapse_quic_key_from_secret, deerlapse_quic_key_init, deerlapse_quic_key_open,
-    deerlapse_quic_key_seal, deerlapse_quic_key_wipe, deerlapse_quic_next_secret,
-    expand_header_key,
+    self, deerlapse_quic_initial_secrets, deerlapse_quic_key_from_secret, deerlapse_quic_key_init,
+    deerlapse_quic_key_open, deerlapse_quic_key_seal, deerlapse_quic_key_wipe,
+    deerlapse_quic_next_secret,
 };
 use crate::record_key::{
     self, deerlapse_record_key_from_secret, deerlapse_record_key_init, deerlapse_record_key_open,
     deerlapse_record_key_seal, deerlapse_record_key_wipe, deerlapse_tls_next_secret,
 };
-use crate::tests::{accepted, equal, is_zero, same};
+use crate::tests::{accepted, equal, is_zero, no_header_key, same};
 use crate::traffic_key::{TrafficKey, fill};
 use aead_ciphers::aes_gcm::GcmKey;
 use aead_ciphers_wide::aes::Width;
@@ -88,14 +91,18 @@ fn xor(bytes: &mut [u8], at: usize, mask: &[u8]) {
 }
 
 /// Masks the header of a packet.
-fn masks_header(rt: &impl Abort, key: &ExpandedKey, row: &Packet) -> Result<(), Fail>
-    requires { IsKeyOrNone key.now }
+fn masks_header(rt: &impl Abort, key: &HeaderKey, row: &Packet) -> Result<(), Fail>
+    requires { IsHeaderKeyOrNone key.now }
 {
     let sample = row.protected.get(row.number_at..).ok_or("a sample")?;
     let sample = sample.get(4..20).ok_or("a sample")?;
     let sample = sample.first_chunk::<16>().ok_or("a sample")?;
     let mut mask = [0; 5];
-    accepted(rt, deerlapse_key_mask(key, sample, &mut mask), row.name);
+    accepted(
+        rt,
+        deerlapse_quic_header_key_mask(key, sample, &mut mask),
+        row.name,
+    );
     let mut masked = row.header.clone()?;
     xor(&mut masked, 0, &[mask[0] & 0x0f]);
     xor(&mut masked, row.number_at, &mask[1..]);
@@ -126,16 +133,22 @@ fn protects(rt: &impl Abort, version: u32, secret: &[u8], row: &Packet) -> Resul
     Ok(())
 }
 
-/// Masks a packet's header under the header key of a secret, with planes of each width.
+/// Masks a packet's header under the header key of a secret, and under the key's bytes, which are then wiped.
 fn masks(rt: &impl Abort, version: u32, secret: &[u8], row: &Packet) -> Result<(), Fail> {
-    let (mut key, mut wider) = (ExpandedKey::zeros(), ExpandedKey::zeros());
+    let (mut key, mut of_bytes) = (no_header_key(), no_header_key());
     if !deerlapse_quic_header_key_from_secret(&mut key, version, secret)
-        || !expand_header_key(&mut wider, version, secret, Width::Bits256)
+        || !deerlapse_quic_header_key_init(&mut of_bytes, &row.header_key)
     {
         return Err("a header key".into());
     }
     masks_header(rt, &key, row)?;
-    masks_header(rt, &wider, row)
+    masks_header(rt, &of_bytes, row)?;
+    deerlapse_quic_header_key_wipe(&mut of_bytes);
+    equal(rt, &of_bytes.rounds, &0, row.name);
+    for round_key in &of_bytes.round_keys {
+        same(rt, round_key, &[0; 16], row.name);
+    }
+    Ok(())
 }
 
 #[test]

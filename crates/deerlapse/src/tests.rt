@@ -4,11 +4,14 @@ ghost use Rattle.deerlapse.specs.AesKey.{IsKeyOrNone};
 
 use crate::aes_gcm::{deerlapse_open, deerlapse_seal, open, seal};
 use crate::chacha20::deerlapse_chacha20;
+use crate::header_key::{
+    HeaderKey, deerlapse_quic_header_key_init, deerlapse_quic_header_key_mask,
+};
 use crate::key::{
     deerlapse_key_init, deerlapse_key_open, deerlapse_key_open_separate_tag, deerlapse_key_seal,
     deerlapse_key_wipe, expand,
 };
-use crate::masks::{deerlapse_key_mask, deerlapse_mask_aes, deerlapse_mask_chacha20};
+use crate::masks::{deerlapse_mask_aes, deerlapse_mask_chacha20};
 use crate::numbered_key::{NumberedKey, deerlapse_nonce, fill};
 use crate::opener::{
     deerlapse_opener_init, deerlapse_opener_next, deerlapse_opener_open,
@@ -383,27 +386,30 @@ fn long(rt: HostRuntime) -> Result<(), Fail> {
     Ok(())
 }
 
+/// A header key of zeros.
+pub(crate) fn no_header_key() -> HeaderKey {
+    HeaderKey {
+        rounds: 0,
+        round_keys: [[0; 16]; 15],
+    }
+}
+
 /// A call wrote the mask of a block, the first bytes of its encryption.
 fn is_mask(rt: &impl Abort, case: &fips_197::Case, made: bool, mask: &[u8; 5]) {
     accepted(rt, made, case.name);
     same(rt, mask, &case.ciphertext[..5], case.name);
 }
 
-/// Writes the mask of a block under a key, and under an expanded key of each width.
+/// Writes the mask of a block under a key, and under an expanded key.
 fn masks_a_block(rt: &impl Abort, case: &fips_197::Case) {
     let mut mask = [0; 5];
     let answer = deerlapse_mask_aes(&case.key, &case.plaintext, &mut mask);
     is_mask(rt, case, answer, &mask);
 
-    let mut key = ExpandedKey::zeros();
+    let mut key = no_header_key();
     let mut mask = [0; 5];
-    let answer = deerlapse_key_init(&mut key, &case.key)
-        && deerlapse_key_mask(&key, &case.plaintext, &mut mask);
-    is_mask(rt, case, answer, &mask);
-
-    let mut mask = [0; 5];
-    let answer = expand(&mut key, &case.key, Width::Bits256)
-        && deerlapse_key_mask(&key, &case.plaintext, &mut mask);
+    let answer = deerlapse_quic_header_key_init(&mut key, &case.key)
+        && deerlapse_quic_header_key_mask(&key, &case.plaintext, &mut mask);
     is_mask(rt, case, answer, &mask);
 }
 

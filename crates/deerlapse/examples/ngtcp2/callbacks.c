@@ -18,6 +18,21 @@ void ngtcp2_deerlapse_key_free(void *key) {
     free(key);
 }
 
+void *ngtcp2_deerlapse_header_key_new(const uint8_t *bytes, size_t len) {
+    deerlapse_quic_header_key *key = malloc(sizeof *key);
+    if (key != NULL && !deerlapse_quic_header_key_init(key, bytes, len)) {
+        free(key);
+        return NULL;
+    }
+    return key;
+}
+
+void ngtcp2_deerlapse_header_key_free(void *key) {
+    if (key == NULL) return;
+    deerlapse_quic_header_key_wipe(key);
+    free(key);
+}
+
 /* ngtcp2 calls it for each packet that it writes. `dest` may be `plaintext`. The tag goes after the ciphertext. */
 int ngtcp2_deerlapse_encrypt(uint8_t *dest, const ngtcp2_crypto_aead *aead, const ngtcp2_crypto_aead_ctx *ctx,
                              const uint8_t *plaintext, size_t len, const uint8_t *nonce, size_t nonce_len,
@@ -48,5 +63,5 @@ int ngtcp2_deerlapse_decrypt(uint8_t *dest, const ngtcp2_crypto_aead *aead, cons
 int ngtcp2_deerlapse_hp_mask(uint8_t *dest, const ngtcp2_crypto_cipher *cipher, const ngtcp2_crypto_cipher_ctx *ctx,
                              const uint8_t *sample) {
     (void)cipher;
-    return deerlapse_key_mask(ctx->native_handle, sample, dest) ? 0 : NGTCP2_ERR_CALLBACK_FAILURE;
+    return deerlapse_quic_header_key_mask(ctx->native_handle, sample, dest) ? 0 : NGTCP2_ERR_CALLBACK_FAILURE;
 }

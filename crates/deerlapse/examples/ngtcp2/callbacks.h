@@ -5,7 +5,8 @@
 #include <ngtcp2/ngtcp2.h>
 
 /* What a program sets as the fields `encrypt`, `decrypt` and `hp_mask` of ngtcp2_callbacks. The `native_handle` of the
- * context that each is given is a key of ngtcp2_deerlapse_key_new: for packets, or for headers. */
+ * context that each is given is a key of ngtcp2_deerlapse_key_new, and that of the last one of
+ * ngtcp2_deerlapse_header_key_new. */
 int ngtcp2_deerlapse_encrypt(uint8_t *dest, const ngtcp2_crypto_aead *aead, const ngtcp2_crypto_aead_ctx *ctx,
                              const uint8_t *plaintext, size_t len, const uint8_t *nonce, size_t nonce_len,
                              const uint8_t *aad, size_t aad_len);
@@ -15,11 +16,13 @@ int ngtcp2_deerlapse_decrypt(uint8_t *dest, const ngtcp2_crypto_aead *aead, cons
 int ngtcp2_deerlapse_hp_mask(uint8_t *dest, const ngtcp2_crypto_cipher *cipher, const ngtcp2_crypto_cipher_ctx *ctx,
                              const uint8_t *sample);
 
-/* Makes a key of len bytes, 16 or 32, for ngtcp2_conn_install_rx_key and the like. Returns null for another length, or if
- * there is no memory. */
+/* Make a key of len bytes, 16 or 32, for ngtcp2_conn_install_rx_key and the like: for packets, and for headers. They return
+ * null for another length, or if there is no memory. */
 void *ngtcp2_deerlapse_key_new(const uint8_t *bytes, size_t len);
+void *ngtcp2_deerlapse_header_key_new(const uint8_t *bytes, size_t len);
 
-/* Wipes a key, and frees it: for the callbacks `delete_crypto_aead_ctx` and `delete_crypto_cipher_ctx`. */
+/* Wipe a key, and free it: for the callbacks `delete_crypto_aead_ctx` and `delete_crypto_cipher_ctx`. */
 void ngtcp2_deerlapse_key_free(void *key);
+void ngtcp2_deerlapse_header_key_free(void *key);
 
 #endif

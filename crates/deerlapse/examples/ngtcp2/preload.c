@@ -96,13 +96,13 @@ int gnutls_cipher_init(gnutls_cipher_hd_t *handle, gnutls_cipher_algorithm_t cip
     size_t len = iv == NULL ? header_key_len(cipher) : 0;
     if (len == 0) return NEXT(gnutls_cipher_init)(handle, cipher, key, iv);
     if (key->size != len) return GNUTLS_E_INVALID_REQUEST;
-    *handle = marked(ngtcp2_deerlapse_key_new(key->data, len));
+    *handle = marked(ngtcp2_deerlapse_header_key_new(key->data, len));
     return *handle == NULL ? GNUTLS_E_MEMORY_ERROR : 0;
 }
 
 void gnutls_cipher_deinit(gnutls_cipher_hd_t handle) {
     if (is_ours(handle)) {
-        ngtcp2_deerlapse_key_free(key_of(handle));
+        ngtcp2_deerlapse_header_key_free(key_of(handle));
     } else {
         NEXT(gnutls_cipher_deinit)(handle);
     }
