@@ -235,15 +235,6 @@ bool deerlapse_key_update(const deerlapse_key *key, deerlapse_message *message, 
 DEERLAPSE_NODISCARD
 bool deerlapse_key_finish(const deerlapse_key *key, deerlapse_message *message, uint8_t tag[DEERLAPSE_TAG_LEN]);
 
-/* Writes QUIC's header protection mask for a sample, with AES under an expanded key (RFC 9001 section 5.4.3).
- *
- *   key   initialized by deerlapse_key_init from a header protection key, under which nothing is sealed, or zeros
- *
- * Returns false if the key is zeros. */
-DEERLAPSE_NODISCARD
-bool deerlapse_key_mask(const deerlapse_key *key, const uint8_t sample[DEERLAPSE_SAMPLE_LEN],
-                        uint8_t mask[DEERLAPSE_MASK_LEN]);
-
 /* Overwrites a key with zeros. Every call under it then returns false. Nothing else has to be freed. This does not clear
  * what earlier calls left on the stack. */
 DEERLAPSE_CALL
@@ -500,16 +491,6 @@ bool deerlapse_quic_key_init(deerlapse_quic_key *key, const uint8_t *bytes, size
 DEERLAPSE_NODISCARD
 bool deerlapse_quic_key_from_secret(deerlapse_quic_key *key, uint32_t version, const uint8_t *secret, size_t secret_len);
 
-/* Expands the key of a secret that masks headers, for deerlapse_key_mask. Its previous bytes are not read. A key update
- * leaves it as it is (RFC 9001 section 6.1).
- *
- *   version, secret   as for deerlapse_quic_key_from_secret
- *
- * Returns false if that call does. */
-DEERLAPSE_NODISCARD
-bool deerlapse_quic_header_key_from_secret(deerlapse_key *key, uint32_t version, const uint8_t *secret,
-                                           size_t secret_len);
-
 /* Writes the secrets of the Initial packets that each end sends (RFC 9001 section 5.2, RFC 9369 section 3.3.1).
  *
  *   version   DEERLAPSE_QUIC_V1 or DEERLAPSE_QUIC_V2
@@ -560,6 +541,45 @@ bool deerlapse_quic_key_open(const deerlapse_quic_key *key, uint64_t number, con
 /* Overwrites a key with zeros. Every call under it then returns false. */
 DEERLAPSE_CALL
 void deerlapse_quic_key_wipe(deerlapse_quic_key *key);
+
+/* An AES key that masks the headers of QUIC's packets in one direction (RFC 9001 section 5.4.3), and seals nothing. As a
+ * deerlapse_quic_key, it is in the caller's memory and contains no pointer, threads may share it, every call under a key of
+ * zeros returns false, and any other memory must only be passed to the calls that initialize it and to
+ * deerlapse_quic_header_key_wipe. */
+typedef struct deerlapse_quic_header_key {
+    uint64_t words[31]; /* private: neither read nor write them */
+} deerlapse_quic_header_key;
+
+/* Expands a key. Its previous bytes are not read.
+ *
+ *   bytes   len bytes: 16 for AES-128, 32 for AES-256
+ *
+ * Returns false if len is neither 16 nor 32. */
+DEERLAPSE_NODISCARD
+bool deerlapse_quic_header_key_init(deerlapse_quic_header_key *key, const uint8_t *bytes, size_t len);
+
+/* Expands the key of a secret that masks headers (RFC 9001 section 5.1, RFC 9369 section 3.3.2). Its previous bytes are not
+ * read. A key update leaves it as it is (RFC 9001 section 6.1).
+ *
+ *   version, secret   as for deerlapse_quic_key_from_secret
+ *
+ * Returns false if that call does. */
+DEERLAPSE_NODISCARD
+bool deerlapse_quic_header_key_from_secret(deerlapse_quic_header_key *key, uint32_t version, const uint8_t *secret,
+                                           size_t secret_len);
+
+/* Writes the mask for a sample of 16 bytes of a sealed packet (RFC 9001 section 5.4.2).
+ *
+ *   key   initialized, or zeros
+ *
+ * Returns false if the key is zeros. */
+DEERLAPSE_NODISCARD
+bool deerlapse_quic_header_key_mask(const deerlapse_quic_header_key *key, const uint8_t sample[DEERLAPSE_SAMPLE_LEN],
+                                    uint8_t mask[DEERLAPSE_MASK_LEN]);
+
+/* Overwrites a key with zeros. Every call under it then returns false. */
+DEERLAPSE_CALL
+void deerlapse_quic_header_key_wipe(deerlapse_quic_header_key *key);
 
 /* The same for the records of TLS 1.3 (RFC 8446 section 5.2). What is said of a deerlapse_quic_key holds for it; how many
  * records a key may seal is in RFC 8446 section 5.5. */
@@ -623,7 +643,7 @@ bool deerlapse_record_key_open(const deerlapse_record_key *key, uint64_t number,
 DEERLAPSE_CALL
 void deerlapse_record_key_wipe(deerlapse_record_key *key);
 
-/* Does the same as deerlapse_key_mask under a key that is expanded for this sample only.
+/* Does the same as deerlapse_quic_header_key_mask under a key that is expanded for this sample only.
  *
  *   key   key_len bytes: 16 for AES-128, 32 for AES-256
  *
@@ -962,13 +982,6 @@ bool deerlapse_quic_key_from_secret_nullable(deerlapse_quic_key *key, uint32_t v
 }
 #define deerlapse_quic_key_from_secret deerlapse_quic_key_from_secret_nullable
 
-DEERLAPSE_WRAPS(1)
-bool deerlapse_quic_header_key_from_secret_nullable(deerlapse_key *key, uint32_t version, const uint8_t *secret,
-                                                    size_t secret_len) {
-    return deerlapse_quic_header_key_from_secret(key, version, deerlapse_to_read(secret, secret_len), secret_len);
-}
-#define deerlapse_quic_header_key_from_secret deerlapse_quic_header_key_from_secret_nullable
-
 DEERLAPSE_WRAPS(4, 5)
 bool deerlapse_quic_initial_secrets_nullable(uint32_t version, const uint8_t *id, size_t id_len,
                                              uint8_t client[DEERLAPSE_SHA256_LEN],
@@ -999,6 +1012,19 @@ bool deerlapse_quic_key_open_nullable(const deerlapse_quic_key *key, uint64_t nu
                                    deerlapse_to_write(payload, payload_len), payload_len, plaintext_len);
 }
 #define deerlapse_quic_key_open deerlapse_quic_key_open_nullable
+
+DEERLAPSE_WRAPS(1)
+bool deerlapse_quic_header_key_init_nullable(deerlapse_quic_header_key *key, const uint8_t *bytes, size_t len) {
+    return deerlapse_quic_header_key_init(key, deerlapse_to_read(bytes, len), len);
+}
+#define deerlapse_quic_header_key_init deerlapse_quic_header_key_init_nullable
+
+DEERLAPSE_WRAPS(1)
+bool deerlapse_quic_header_key_from_secret_nullable(deerlapse_quic_header_key *key, uint32_t version,
+                                                    const uint8_t *secret, size_t secret_len) {
+    return deerlapse_quic_header_key_from_secret(key, version, deerlapse_to_read(secret, secret_len), secret_len);
+}
+#define deerlapse_quic_header_key_from_secret deerlapse_quic_header_key_from_secret_nullable
 
 DEERLAPSE_WRAPS(1, 4)
 bool deerlapse_record_key_init_nullable(deerlapse_record_key *key, const uint8_t *bytes, size_t len,
