@@ -108,8 +108,8 @@ pub(super) fn encrypt_rest<A: EncryptCtr32>(
     }
 }
 
-/// Encrypts or decrypts the bytes from `start` on to the front of `in_out`, in `padded`, which has the blocks that they fill
-/// or begin.
+/// Encrypts or decrypts the bytes from `start` on to the front of `in_out`. The work is done in `padded`, which is as long as
+/// these bytes and what is missing from their last block.
 #[inline(always)]
 fn encrypt_padded<A: EncryptCtr32>(
     aes: &A,

@@ -50,8 +50,8 @@ pub fn open_with<A: EncryptCtr32, G: UpdateBlocks>(
     open_fitting_with(aes, gcm, nonce, aad, received_tag, in_out, start, work)
 }
 
-/// Opens as `open_with` does, the ciphertext from `start` on, if that is in range and the lengths are within the limits, which
-/// the caller has checked. Fails if the tags differ.
+/// Opens the ciphertext from `start` on, as `open_with` does. The caller has checked that `start` is within `in_out` and that the
+/// lengths are within the limits, so the only error is that the tags differ.
 #[inline(always)]
 pub fn open_fitting_with<A: EncryptCtr32, G: UpdateBlocks>(
     aes: &A,

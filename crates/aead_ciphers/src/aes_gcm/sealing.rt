@@ -92,7 +92,8 @@ fn encrypt_short<A: EncryptCtr32>(
     }
 }
 
-/// Does the same in `text`, which has a block of zeros and the blocks that the plaintext fills or begins.
+/// Encrypts the plaintext in place and returns the mask of the tag, as `encrypt_short` does. The work is done in `text`, which
+/// starts with a block of zeros and has room for the plaintext and for what is missing from its last block.
 #[inline(always)]
 fn encrypt_after_zeros<A: EncryptCtr32>(
     aes: &A,

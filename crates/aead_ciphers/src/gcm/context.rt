@@ -109,7 +109,8 @@ impl<'key, K: UpdateBlocks> Context<'key, K> {
         Ok(Context::of_fitting(key, aad, in_out_len, work))
     }
 
-    /// Starts a hash as `new` does, of lengths that are within the limits.
+    /// Starts the hash of `aad` and of `in_out_len` bytes of ciphertext, as `new` does. The caller has checked that both lengths
+    /// are within the limits.
     pub(crate) fn of_fitting(key: &'key K, aad: Aad<'_>, in_out_len: usize, work: &mut Work) -> Self
         requires fits { Fits (length (aad_bytes aad)) in_out_len }
         requires sums { CanAdd work.old 0 ((length (aad_bytes aad) + 15) / 16) }

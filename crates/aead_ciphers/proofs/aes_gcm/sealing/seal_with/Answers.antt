@@ -35,7 +35,8 @@ loop-done-preserved g c =
     let long = chunk_length d n _ xs room inv.walk.size in
     record {
       worked =
-          chunk_counted c.of_fitting-auth.new.work c.loop-done.work c.encrypt_blocks.new.work c.absorb-in-loop-done.new.work d n _ _ inv.walk.aligned whole.0 long size
+          chunk_counted c.of_fitting-auth.new.work c.loop-done.work c.encrypt_blocks.new.work c.absorb-in-loop-done.new.work d n _ _
+          inv.walk.aligned whole.0 long size
           inv.worked c.encrypt_blocks.ensures.worked c.absorb-in-loop-done.ensures.worked;
       within = whole.1;
       walk = walk;
