@@ -526,14 +526,16 @@ summed_value table high low one bytes rows r size size' is looked =
     ∙ ap (λ y. y ⊕ row_value rows r) (looked_value table high low one r looked)
 
 -- the sum after the last turn
-pub pair_end : (h table squares x high low y high' low' first second result : List ℕ) (rows : List (List ℕ)) (k : ℕ) → Sized h → AreProducts h table → AreProducts (h • h) squares
+pub pair_end : (h table squares x high low y high' low' first second result : List ℕ) (rows : List (List ℕ)) (k : ℕ)
+    → Sized h → AreProducts h table → AreProducts (h • h) squares
     → IsBlock x → ((i : ℕ) → i < 16 → slice_index high i ≡ slice_index x i / 16) → ((i : ℕ) → i < 16 → slice_index low i ≡ slice_index x i % 16)
     → IsBlock y → ((i : ℕ) → i < 16 → slice_index high' i ≡ slice_index y i / 16) → ((i : ℕ) → i < 16 → slice_index low' i ≡ slice_index y i % 16)
     → ((r : ℕ) → r < 16 → slice_index_or rows r [] ≡ each_below 16 (row_byte table high' low' r))
     → IsBlock first → IsBlock second → k ≡ 16
     → pair_value first second ≡ ladder k (λ r. row_sums squares high low rows (16 - k + r))
     → result ≡ first ⊕ u128_times second → result ≡ (x • h ⊕ y) • h
-pair_end h table squares x high low y high' low' first second result rows k size p p' is_x is_high is_low is_y is_high' is_low' looked is_first is_second all value e =
+pair_end h table squares x high low y high' low' first second result rows k size p p' is_x is_high is_low is_y is_high' is_low' looked
+    is_first is_second all value e =
     let F = row_sum squares high low in
     let G = row_value rows in
     let sF : (r : ℕ) → Sized (F r) = λ r. Sized-ladder 16 (λ i. first_byte (row_byte squares high low r i)) (λ i. refl) in

@@ -1,5 +1,5 @@
 -- The rows of a table of products: the bytes at one place of the sums of four multiples, each the sum of two sums of two multiples.
-use Rattle.std.proofs.Common.{◌≡◌, ℕ, ◌+◌, ◌-◌, ◌*◌, ◌/◌, ◌%◌, ◌<◌, ◌≤◌, ◌⊎◌, inl, inr, ◌==◌, if◌then◌else◌, Bool, true, false, bit_xor, List, [], ◌∷◌, ◌++◌, length, get_or, slice_index, slice_index_or, refl, sym, ap, ap₂, ◌∙◌, arith}
+use Rattle.std.proofs.Common.{◌≡◌, ℕ, ◌+◌, ◌-◌, ◌*◌, ◌/◌, ◌%◌, ◌<◌, ◌≤◌, ◌⊎◌, inl, inr, zero, suc, ◌==◌, if◌then◌else◌, Bool, true, false, bit_xor, List, [], ◌∷◌, ◌++◌, length, get_or, slice_index, slice_index_or, refl, sym, ap, ap₂, ◌∙◌, arith}
 use Rattle.std.specs.Simd.Lanes.{put_chunk}
 use Rattle.std.proofs.lemmas.Bool.{cases_lt}
 use Rattle.std.proofs.lemmas.Simd.{get_or-put_chunk_above, get_or-put_chunk_at, get_or-put_chunk_below}
@@ -7,6 +7,7 @@ use Rattle.std.proofs.lemmas.List.{get_or_append_left, get_or-append_right}
 use Rattle.std.specs.Int.Bits.{xor_assoc, xor_zero_l, xor_zero_r}
 use Rattle.aead_ciphers_base.specs.Bytes.{each_below}
 use Rattle.aead_ciphers_base.proofs.PlaneBlocks.{by_four}
+use Rattle.aead_ciphers_base.proofs.EachLemmas.{each-same, get_or-each, length-each}
 use Rattle.aead_ciphers_wide.specs.Products.{chosen_of_two, chosen_sum}
 use Rattle.aead_ciphers_wide.proofs.ByteRows.{byte_at}
 
@@ -14,10 +15,16 @@ use Rattle.aead_ciphers_wide.proofs.ByteRows.{byte_at}
 pub joined_first : (a b : List ℕ) (k : ℕ) → length a ≡ 16 → k < 16 → get_or (a ++ b) k 0 ≡ slice_index a k
 joined_first a b k size h = get_or_append_left a b 0 k (omega (arith, size))
 
-pub joined_second : (a b : List ℕ) (k : ℕ) → length a ≡ 16 → get_or (a ++ b) (16 + k) 0 ≡ slice_index b k
-joined_second a b k size =
-    let place : 16 + k - 16 ≡ k = omega arith in
-    get_or-append_right a b 16 (16 + k) 0 size (omega arith) ∙ ap (slice_index b) place
+-- an item of the first vector for t = 0, and of the second for t = 1
+pub joined_item : (a b : List ℕ) (t k : ℕ) → length a ≡ 16 → t < 2 → k < 16
+    → get_or (a ++ b) (16 * t + k) 0 ≡ slice_index (if t == 0 then a else b) k
+joined_item a b zero k size less h =
+    let place : 16 * zero + k ≡ k = omega arith in
+    ap (λ i. get_or (a ++ b) i 0) place ∙ joined_first a b k size h
+joined_item a b (suc zero) k size less h =
+    let place : 16 * 1 + k - 16 ≡ k = omega arith in
+    get_or-append_right a b 16 (16 * 1 + k) 0 size (omega arith) ∙ ap (slice_index b) place
+joined_item a b (suc (suc t)) k size less h = absurd (omega arith)
 
 -- an item of one of two vectors
 picked : (t : Bool) (x y x' y' : List ℕ) (j q : ℕ) → slice_index x j ≡ slice_index x' q → slice_index y j ≡ slice_index y' q
@@ -61,7 +68,8 @@ module _ (zeros a b sum : List ℕ) (none : (i : ℕ) → i < 16 → slice_index
       let place : 8 * g + j / 2 ≡ p = omega arith in
       let from = λ (t : Bool) (low : ℕ). if t then (if low == 0 then zeros else b) else (if low == 0 then a else sum) in
       is i within
-      ∙ picked (i / 2 % 2 == 0) low more (if j % 2 == 0 then zeros else b) (if j % 2 == 0 then a else sum) j (8 * g + j / 2) (is_low j less) (is_more j less)
+      ∙ picked (i / 2 % 2 == 0) low more (if j % 2 == 0 then zeros else b) (if j % 2 == 0 then a else sum) j (8 * g + j / 2)
+      (is_low j less) (is_more j less)
       ∙ ap₂ (λ low q. slice_index (from (i / 2 % 2 == 0) low) q) bit place
       ∙ by_digit i p (omega arith)
 
@@ -77,27 +85,27 @@ sum_of_four n x y z w less =
     (ap₂ (λ d e. bit_xor (part d z) (part e w)) two one)
     ∙ sym (xor_assoc (bit_xor (part (n / 8 % 2) x) (part (n / 4 % 2) y)) (part (n / 2 % 2) z) (part (n / 1 % 2) w))
 
--- row 4 k + j, of the sums of two at the places 4 k, .., 4 k + 3
+-- the row with the number 4 k + j, which is made of the sums of two at the places from 4 k to 4 k + 3
 pub row_of_four : (a b c d high low row : List ℕ) (k j : ℕ) → j < 4
     → ((i : ℕ) → i < 16 → slice_index high i ≡ chosen_of_two (i % 4) (slice_index a (4 * k + i / 4)) (slice_index b (4 * k + i / 4)))
     → ((i : ℕ) → i < 16 → slice_index low i ≡ chosen_of_two (i % 4) (slice_index c (4 * k + i / 4)) (slice_index d (4 * k + i / 4)))
-    → ((n : ℕ) → n < 16 → slice_index row n ≡ bit_xor (slice_index high (4 * j + n / 4)) (slice_index low (4 * j + n % 4)))
-    → (n : ℕ) → n < 16 → slice_index row n
-    ≡ chosen_sum n 0 (slice_index a (4 * k + j) ∷ slice_index b (4 * k + j) ∷ slice_index c (4 * k + j) ∷ slice_index d (4 * k + j) ∷ [])
-row_of_four a b c d high low row k j less is_high is_low is n within =
+    → row ≡ each_below 16 (λ n. bit_xor (slice_index high (4 * j + n / 4)) (slice_index low (4 * j + n % 4)))
+    → row ≡ each_below 16 (λ n. chosen_sum n 0
+    (slice_index a (4 * k + j) ∷ slice_index b (4 * k + j) ∷ slice_index c (4 * k + j) ∷ slice_index d (4 * k + j) ∷ []))
+row_of_four a b c d high low row k j less is_high is_low is =
     let p = 4 * k + j in
+    is ∙ each-same 16 _ _ (λ n within.
     let high_digit : (4 * j + n / 4) % 4 ≡ n / 4 = omega arith in
     let high_place : 4 * k + (4 * j + n / 4) / 4 ≡ p = omega arith in
     let low_digit : (4 * j + n % 4) % 4 ≡ n % 4 = omega arith in
     let low_place : 4 * k + (4 * j + n % 4) / 4 ≡ p = omega arith in
-    is n within
-    ∙ ap₂ bit_xor
+    ap₂ bit_xor
     (is_high (4 * j + n / 4) (omega arith) ∙ ap₂ (λ e q. chosen_of_two e (slice_index a q) (slice_index b q)) high_digit high_place)
     (is_low (4 * j + n % 4) (omega arith) ∙ ap₂ (λ e q. chosen_of_two e (slice_index c q) (slice_index d q)) low_digit low_place)
-    ∙ sum_of_four n (slice_index a p) (slice_index b p) (slice_index c p) (slice_index d p) within
+    ∙ sum_of_four n (slice_index a p) (slice_index b p) (slice_index c p) (slice_index d p) within)
 
 -- a byte of a table to which a row is written
-pub row_at : (table row : List ℕ) (at n : ℕ) → length row ≡ 16 → at + 16 ≤ length table → n < 16
+row_at : (table row : List ℕ) (at n : ℕ) → length row ≡ 16 → at + 16 ≤ length table → n < 16
     → slice_index (put_chunk at table row) (at + n) ≡ slice_index row n
 row_at table row at n size fits h = get_or-put_chunk_at at table row n 0 (omega (arith, size)) (omega (arith, size))
 
@@ -107,22 +115,22 @@ row_beside table row at q size (inl less) = get_or-put_chunk_below at table row 
 row_beside table row at q size (inr more) = get_or-put_chunk_above at table row q 0 (omega (arith, size))
 
 -- row k of a half is written, after those before it
-pub row_more : (before after row : List ℕ) (at k : ℕ) (f : ℕ → ℕ → ℕ)
-    → ((r n : ℕ) → r < k → n < 16 → slice_index before (at + (16 * r + n)) ≡ f r n)
-    → ((n : ℕ) → n < 16 → slice_index after (at + 16 * k + n) ≡ slice_index row n)
-    → ((q : ℕ) → (q < at + 16 * k) ⊎ (at + 16 * k + 16 ≤ q) → slice_index after q ≡ slice_index before q)
-    → ((n : ℕ) → n < 16 → slice_index row n ≡ f k n)
-    → (r n : ℕ) → r < k + 1 → n < 16 → slice_index after (at + (16 * r + n)) ≡ f r n
-row_more before after row at k f held written others is r n less h = elim (cases_lt r k) [
-  | inl earlier ↦ others (at + (16 * r + n)) (inl (omega arith)) ∙ held r n earlier h
-  | inr later ↦
-      let here : k ≡ r = omega arith in
-      let place : at + (16 * r + n) ≡ at + 16 * k + n = omega arith in
-      ap (slice_index after) place ∙ written n h ∙ is n h ∙ ap (λ r. f r n) here
-]
+pub row_more : (table row : List ℕ) (at k : ℕ) (f : ℕ → ℕ → ℕ) → at + 16 * k + 16 ≤ length table
+    → ((r n : ℕ) → r < k → n < 16 → slice_index table (at + (16 * r + n)) ≡ f r n) → row ≡ each_below 16 (f k)
+    → (r n : ℕ) → r < k + 1 → n < 16 → slice_index (put_chunk (at + 16 * k) table row) (at + (16 * r + n)) ≡ f r n
+row_more table row at k f fits held is r n less h =
+    let size : length row ≡ 16 = ap length is ∙ length-each 16 (f k) in
+    elim (cases_lt r k) [
+      | inl earlier ↦ row_beside table row (at + 16 * k) (at + (16 * r + n)) size (inl (omega arith)) ∙ held r n earlier h
+      | inr later ↦
+          let here : k ≡ r = omega arith in
+          let place : at + (16 * r + n) ≡ at + 16 * k + n = omega arith in
+          ap (slice_index (put_chunk (at + 16 * k) table row)) place ∙ row_at table row (at + 16 * k) n size fits h
+          ∙ ap (λ row. slice_index row n) is ∙ get_or-each 16 (f k) n 0 h ∙ ap (λ r. f r n) here
+    ]
 
 -- the bytes of a half of a table
-pub half_is : (blocks : List (List ℕ)) (table : List ℕ) (half at : ℕ) → at ≡ 256 * half
+half_is : (blocks : List (List ℕ)) (table : List ℕ) (half at : ℕ) → at ≡ 256 * half
     → ((r n : ℕ) → r < 16 → n < 16 → slice_index table (at + (16 * r + n))
     ≡ chosen_sum n 0 (each_below 4 (λ k. slice_index (slice_index_or blocks (4 * half + k) []) r)))
     → (q : ℕ) → q / 256 ≡ half → slice_index table q ≡ byte_at blocks q
@@ -134,10 +142,13 @@ half_is blocks table half at place is q within =
 
 -- a table whose halves were written one after the other
 pub halves_written : (blocks : List (List ℕ)) (first both : List ℕ)
-    → ((q : ℕ) → q / 256 ≡ 0 → slice_index first q ≡ byte_at blocks q) → ((q : ℕ) → q / 256 ≡ 1 → slice_index both q ≡ byte_at blocks q)
+    → ((r n : ℕ) → r < 16 → n < 16 → slice_index first (0 + (16 * r + n))
+    ≡ chosen_sum n 0 (each_below 4 (λ k. slice_index (slice_index_or blocks (4 * 0 + k) []) r)))
+    → ((r n : ℕ) → r < 16 → n < 16 → slice_index both (256 + (16 * r + n))
+    ≡ chosen_sum n 0 (each_below 4 (λ k. slice_index (slice_index_or blocks (4 * 1 + k) []) r)))
     → ((q : ℕ) → (q < 256) ⊎ (256 + 256 ≤ q) → slice_index both q ≡ slice_index first q)
     → (q : ℕ) → q < 512 → slice_index both q ≡ byte_at blocks q
 halves_written blocks first both is_first is_second kept q within = elim (cases_lt q 256) [
-  | inl less ↦ kept q (inl less) ∙ is_first q (omega arith)
-  | inr more ↦ is_second q (omega arith)
+  | inl less ↦ kept q (inl less) ∙ half_is blocks first 0 0 (omega arith) is_first q (omega arith)
+  | inr more ↦ half_is blocks both 1 256 (omega arith) is_second q (omega arith)
 ]

@@ -95,9 +95,11 @@ impl Word {
     }
 }
 
-/// For each bit of a digit in base 16, the lowest first: 255 at each digit that has it, and 0 at the others. From a comparison
-/// with the bit, LLVM makes one with a sign, which took 1.4 times the instructions of a look-up on x86-64-v2, and as many on
-/// x86-64-v3 and ARM64.
+/// A table of 16 bytes for each bit of a digit in base 16, the lowest bit first. The byte of a digit is 255 if the digit has
+/// this bit, and 0 if it doesn't.
+///
+/// A look-up in such a table is faster than a comparison of each byte with the bit, for which LLVM takes a comparison of signed
+/// bytes: that took 1.4 times as many instructions on x86-64-v2, and equally many on x86-64-v3 and ARM64.
 const FILLED: [[u8; 16]; 4] = [
     [
         0, 255, 0, 255, 0, 255, 0, 255, 0, 255, 0, 255, 0, 255, 0, 255,

@@ -12,11 +12,12 @@
 //! scalar registers the reduction took 1.14 times as long. It is byte by byte: in two lanes of 64 bits it took more
 //! instructions on ARM64, and as many on x86-64-v3.
 //!
-//! For two blocks, the even and the odd rows have a sum each, and the rows of the second block, which doesn't wait for the block
-//! before, are looked up first. By llvm-mca 14, the loop over pairs takes 284 cycles on Cortex-A53 (with one sum: 337), 311 on
-//! Cortex-A55 (345) and 162 on Cortex-A72 (165), in 219 instructions (217). On x86-64-v2 it takes 267 instructions (263) and
-//! 0.985 of the time. On Cortex-A72 a look-up of 16 bytes is three operations, so that two blocks keep its two vector units busy
-//! for 150 cycles in any order.
+//! The products of two blocks are added up in two sums, one of the rows with even numbers and one of the rows with odd numbers,
+//! so that a processor can work at both at the same time. The rows of the second block are looked up before those of the first,
+//! because the first block can't be multiplied before the hash of what precedes it is known. By llvm-mca 14, the loop over pairs
+//! takes 284 cycles on Cortex-A53 (with one sum: 337), 311 on Cortex-A55 (345) and 162 on Cortex-A72 (165), in 219 instructions
+//! (217). On x86-64-v2 it takes 267 instructions (263) and 0.985 of the time. On Cortex-A72 a look-up of 16 bytes is three
+//! operations, so that two blocks keep its two vector units busy for 150 cycles in any order.
 //!
 //! Also tried in C on ARM64, for two blocks and against one sum (210 instructions): four blocks at a time, with tables for four
 //! powers, take 188 instructions and 0.90 of the cycles of Cortex-A72, but 1.03 of the instructions on x86-64-v2, and a key has
@@ -27,6 +28,7 @@
 
 ghost use Rattle.std.specs.Prelude.{◌≡◌, ℕ, ◌+◌, ◌*◌, ◌/◌, ◌%◌, ◌<◌, ◌≤◌, ◌⊎◌, ◌==◌, bit_xor, if◌then◌else◌, [], ◌∷◌, slice_index, slice_index_or};
 ghost use Rattle.std.specs.Int.{to_be_bytes, w128};
+ghost use Rattle.std.specs.Simd.Lanes.{put_chunk};
 ghost use Rattle.aead_ciphers_base.specs.Bytes.{◌⊕◌, each_below};
 ghost use Rattle.aead_ciphers.specs.Ghash.{◌•◌};
 ghost use Rattle.aead_ciphers_wide.specs.Products.{AreProducts, ArePowers, chosen_of_two, chosen_sum, folded_byte, subkey, u128_times};
@@ -252,8 +254,7 @@ pub(crate) fn write_products(table: &mut [u8; 512], block: u128)
 #[inline(always)]
 fn write_table_row(table: &mut [u8; 512], at: usize, row: u8x16)
     requires { at + 16 ≤ 512 }
-    ensures written { (n : ℕ) → n < 16 → slice_index table.new (at + n) ≡ slice_index row n }
-    ensures others { (q : ℕ) → (q < at) ⊎ (at + 16 ≤ q) → slice_index table.new q ≡ slice_index table.old q }
+    ensures { table.new ≡ put_chunk at table.old row }
 {
     row.copy_to_slice(&mut table[at..]);
 }
@@ -330,8 +331,8 @@ fn write_half(table: &mut [u8; 512], at: usize, a: u8x16, b: u8x16, c: u8x16, d:
 /// choose, and of a sum of the others.
 #[inline(always)]
 fn rows(a: u8x16, b: u8x16, c: u8x16, d: u8x16) -> [u8x16; 16]
-    ensures { (r n : ℕ) → r < 16 → n < 16 → slice_index (slice_index_or result r []) n
-        ≡ chosen_sum n 0 (slice_index a r ∷ slice_index b r ∷ slice_index c r ∷ slice_index d r ∷ []) }
+    ensures { (r : ℕ) → r < 16 → slice_index_or result r []
+        ≡ each_below 16 (λ n. chosen_sum n 0 (slice_index a r ∷ slice_index b r ∷ slice_index c r ∷ slice_index d r ∷ [])) }
 {
     let [high0, high1, high2, high3] = sums_of_two(a, b);
     let [low0, low1, low2, low3] = sums_of_two(c, d);
@@ -393,8 +394,8 @@ fn interleaved_in_pairs(a: u8x16, b: u8x16) -> (u8x16, u8x16)
 /// `high` at its two higher bits, and that of `low` at its two lower.
 #[inline(always)]
 fn four_rows(high: u8x16, low: u8x16) -> [u8x16; 4]
-    ensures { (j n : ℕ) → j < 4 → n < 16 → slice_index (slice_index_or result j []) n
-        ≡ bit_xor (slice_index high (4 * j + n / 4)) (slice_index low (4 * j + n % 4)) }
+    ensures { (j : ℕ) → j < 4 → slice_index_or result j []
+        ≡ each_below 16 (λ n. bit_xor (slice_index high (4 * j + n / 4)) (slice_index low (4 * j + n % 4))) }
 {
     [
         high.swizzle([0, 0, 0, 0, 1, 1, 1, 1, 2, 2, 2, 2, 3, 3, 3, 3])

@@ -1,4 +1,4 @@
-use Rattle.std.proofs.Common.{◌≡◌, ◌+◌, ◌-◌, ◌*◌, [], length, slice_index, slice_index_or, ap, ap₂, refl, ◌∙◌, arith, rules}
+use Rattle.std.proofs.Common.{◌≡◌, ◌+◌, ◌-◌, ◌*◌, ◌<◌, ℕ, [], length, slice_index, slice_index_or, ap, ap₂, refl, ◌∙◌, arith, rules}
 use Rattle.aead_ciphers_base.specs.Bytes.{◌⊕◌}
 use Rattle.aead_ciphers.specs.Ghash.{◌•◌}
 use Rattle.aead_ciphers_wide.specs.Products.{subkey}
@@ -40,15 +40,18 @@ loop-k-preserved c =
     let at = c.loop-k.auto in
     let at_start = c.loop-k.invariant in
     let rows = c.looked_up_rows-of_second.result in
-    let size_even_row : length (slice_index_or rows (14 - 2 * k) []) ≡ 16 = ap length (c.looked_up_rows-of_second.ensures (14 - 2 * k) (omega arith)) in
-    let size_odd_row : length (slice_index_or rows (14 - 2 * k + 1) []) ≡ 16 = ap length (c.looked_up_rows-of_second.ensures (14 - 2 * k + 1) (omega arith)) in
+    let size_row = λ (r : ℕ) (h : r < 16). ap length (c.looked_up_rows-of_second.ensures r h) in
+    let size_even_row : length (slice_index_or rows (14 - 2 * k) []) ≡ 16 = size_row (14 - 2 * k) (omega arith) in
+    let size_odd_row : length (slice_index_or rows (14 - 2 * k + 1) []) ≡ 16 = size_row (14 - 2 * k + 1) (omega arith) in
     let size_even : length c.add-even_bytes.result ≡ 16 = omega arith in
     let size_odd : length c.add-odd_bytes.result ≡ 16 = omega arith in
     record {
       value =
           ap₂ (λ x y. x ⊕ step • y)
-          (ap₂ pair_value (c.add-even.ensures ∙ ap (λ b. b ⊕ c.add-even_bytes.result) c.moved_by_two.ensures.first) c.moved_by_two.ensures.second)
-          (ap₂ pair_value (c.add-odd.ensures ∙ ap (λ b. b ⊕ c.add-odd_bytes.result) c.moved_by_two-in-loop-k.ensures.first) c.moved_by_two-in-loop-k.ensures.second)
+          (ap₂ pair_value (c.add-even.ensures ∙ ap (λ b. b ⊕ c.add-even_bytes.result) c.moved_by_two.ensures.first)
+          c.moved_by_two.ensures.second)
+          (ap₂ pair_value (c.add-odd.ensures ∙ ap (λ b. b ⊕ c.add-odd_bytes.result) c.moved_by_two-in-loop-k.ensures.first)
+          c.moved_by_two-in-loop-k.ensures.second)
           ∙ turn_of_two even even_over odd odd_over c.add-even_bytes.result c.add-odd_bytes.result
           (row_sums squares c.digits.result.0 c.digits.result.1 rows) k
           at.even.0 at.even_over.0 at.odd.0 at.odd_over.0 size_even size_odd (omega arith) at_start.even_zeros at_start.odd_zeros at_start.value

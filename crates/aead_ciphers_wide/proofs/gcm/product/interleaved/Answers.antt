@@ -1,28 +1,18 @@
-use Rattle.std.proofs.Common.{ℕ, ◌≡◌, ◌+◌, ◌*◌, ◌/◌, ◌%◌, ◌==◌, if◌then◌else◌, slice_index, ◌++◌, get_or}
-use Rattle.aead_ciphers_base.specs.Bytes.{each_below}
-use Rattle.std.proofs.Math.Dec.{lit<}
-use Rattle.aead_ciphers_wide.proofs.WideBlocks.{by_sixteen}
-use Rattle.aead_ciphers_wide.proofs.TableRows.{joined_first, joined_second}
+use Rattle.std.proofs.Common.{◌+◌, ◌*◌, ◌/◌, ◌%◌, ◌++◌, ◌∙◌, arith, get_or}
+use Rattle.aead_ciphers_base.proofs.EachLemmas.{get_or-each}
+use Rattle.aead_ciphers_wide.proofs.TableRows.{joined_item}
 use Rattle.aead_ciphers_wide.proofs.gcm.product.interleaved.Goals as goal
 
 pub returns-clause-front : goal.returns-clause-front
-returns-clause-front c =
-    let x = c.args.a in
-    let y = c.args.b in
-    let a = λ (k : ℕ). joined_first x y k c.fits-a.0 in
-    let b = λ (k : ℕ). joined_second x y k c.fits-a.0 in
-    by_sixteen (λ i. slice_index (each_below 16 (λ i. get_or (x ++ y) (16 * (i % 2) + i / 2) 0)) i
-    ≡ slice_index (if i % 2 == 0 then x else y) (i / 2))
-    (a 0 (lit< tt)) (b 0) (a 1 (lit< tt)) (b 1) (a 2 (lit< tt)) (b 2) (a 3 (lit< tt)) (b 3)
-    (a 4 (lit< tt)) (b 4) (a 5 (lit< tt)) (b 5) (a 6 (lit< tt)) (b 6) (a 7 (lit< tt)) (b 7)
+returns-clause-front c = λ i h.
+    let a = c.args.a in
+    let b = c.args.b in
+    get_or-each 16 (λ i. get_or (a ++ b) (16 * (i % 2) + i / 2) 0) i 0 h
+    ∙ joined_item a b (i % 2) (i / 2) c.fits-a.0 (omega arith) (omega arith)
 
 pub returns-clause-back : goal.returns-clause-back
-returns-clause-back c =
-    let x = c.args.a in
-    let y = c.args.b in
-    let a = λ (k : ℕ). joined_first x y k c.fits-a.0 in
-    let b = λ (k : ℕ). joined_second x y k c.fits-a.0 in
-    by_sixteen (λ i. slice_index (each_below 16 (λ i. get_or (x ++ y) (16 * (i % 2) + (8 + i / 2)) 0)) i
-    ≡ slice_index (if i % 2 == 0 then x else y) (8 + i / 2))
-    (a 8 (lit< tt)) (b 8) (a 9 (lit< tt)) (b 9) (a 10 (lit< tt)) (b 10) (a 11 (lit< tt)) (b 11)
-    (a 12 (lit< tt)) (b 12) (a 13 (lit< tt)) (b 13) (a 14 (lit< tt)) (b 14) (a 15 (lit< tt)) (b 15)
+returns-clause-back c = λ i h.
+    let a = c.args.a in
+    let b = c.args.b in
+    get_or-each 16 (λ i. get_or (a ++ b) (16 * (i % 2) + (8 + i / 2)) 0) i 0 h
+    ∙ joined_item a b (i % 2) (8 + i / 2) c.fits-a.0 (omega arith) (omega arith)

@@ -10,15 +10,15 @@ loop-k-preserved c =
     let is_row = λ (r : ℕ). row_byte c.args.table.now c.args.high c.args.low r in
     let old = c.loop-k.rows in
     let r = 15 - c.loop-k.k in
-    let row = c.looked_up.result in
+    let looked = c.looked_up.result in
     record {
-      size = length-set old r row ∙ c.loop-k.invariant.size;
+      size = length-set old r looked ∙ c.loop-k.invariant.size;
       rows = λ j within h. elim (cases_lt r j) [
-        | inl after ↦ get_or-set_other old r j row [] (λ e. absurd (omega arith)) ∙ c.loop-k.invariant.rows j within (omega arith)
+        | inl after ↦ get_or-set_other old r j looked [] (λ e. absurd (omega arith)) ∙ c.loop-k.invariant.rows j within (omega arith)
         | inr before ↦
             let here : r ≡ j = omega arith in
-            subst (λ j. slice_index_or (set old r row) j [] ≡ each_below 16 (is_row j)) here
-            (get_or-set_same old r row [] (omega (arith, c.loop-k.invariant.size))
-            ∙ fill_by_all (is_row r) row 16 0 (omega arith) c.looked_up.ensures)
+            subst (λ j. slice_index_or (set old r looked) j [] ≡ each_below 16 (is_row j)) here
+            (get_or-set_same old r looked [] (omega (arith, c.loop-k.invariant.size))
+            ∙ fill_by_all (is_row r) looked 16 0 (omega arith) c.looked_up.ensures)
       ];
     }

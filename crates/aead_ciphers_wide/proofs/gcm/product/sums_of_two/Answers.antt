@@ -19,15 +19,22 @@ returns c = λ k i less within.
     let one = c.interleaved_in_pairs in
     let two = c.interleaved_in_pairs-2 in
     let start : (x : ℕ) → x ≡ 0 + x = λ x. omega arith in
-    let low_front = λ (j : ℕ) (h : j < 16). low.ensures.front j h ∙ ap (slice_index (if j % 2 == 0 then zeros else b)) (start (j / 2)) in
-    let high_front = λ (j : ℕ) (h : j < 16). high.ensures.front j h ∙ ap (slice_index (if j % 2 == 0 then a else sum)) (start (j / 2)) in
+    let low_front = λ (j : ℕ) (h : j < 16). low.ensures.front j h
+    ∙ ap (slice_index (if j % 2 == 0 then zeros else b)) (start (j / 2)) in
+    let high_front = λ (j : ℕ) (h : j < 16). high.ensures.front j h
+    ∙ ap (slice_index (if j % 2 == 0 then a else sum)) (start (j / 2)) in
     let one_front = λ (i : ℕ) (h : i < 16). one.ensures.front i h
     ∙ ap (slice_index (if i / 2 % 2 == 0 then low.result.0 else high.result.0)) (start (2 * (i / 4) + i % 2)) in
     let two_front = λ (i : ℕ) (h : i < 16). two.ensures.front i h
     ∙ ap (slice_index (if i / 2 % 2 == 0 then low.result.1 else high.result.1)) (start (2 * (i / 4) + i % 2)) in
-    by_four (λ k. slice_index (slice_index_or (one.result.0 ∷ one.result.1 ∷ two.result.0 ∷ two.result.1 ∷ []) k []) i ≡ chosen_of_two (i % 4) (slice_index a (4 * k + i / 4)) (slice_index b (4 * k + i / 4)))
-    (quarter zeros a b sum none added low.result.0 high.result.0 one.result.0 0 0 (omega arith) (omega arith) low_front high_front one_front i within)
-    (quarter zeros a b sum none added low.result.0 high.result.0 one.result.1 0 1 (omega arith) (omega arith) low_front high_front one.ensures.back i within)
-    (quarter zeros a b sum none added low.result.1 high.result.1 two.result.0 1 0 (omega arith) (omega arith) low.ensures.back high.ensures.back two_front i within)
-    (quarter zeros a b sum none added low.result.1 high.result.1 two.result.1 1 1 (omega arith) (omega arith) low.ensures.back high.ensures.back two.ensures.back i within)
+    by_four (λ k. slice_index (slice_index_or (one.result.0 ∷ one.result.1 ∷ two.result.0 ∷ two.result.1 ∷ []) k []) i
+    ≡ chosen_of_two (i % 4) (slice_index a (4 * k + i / 4)) (slice_index b (4 * k + i / 4)))
+    (quarter zeros a b sum none added low.result.0 high.result.0 one.result.0 0 0 (omega arith) (omega arith)
+    low_front high_front one_front i within)
+    (quarter zeros a b sum none added low.result.0 high.result.0 one.result.1 0 1 (omega arith) (omega arith)
+    low_front high_front one.ensures.back i within)
+    (quarter zeros a b sum none added low.result.1 high.result.1 two.result.0 1 0 (omega arith) (omega arith)
+    low.ensures.back high.ensures.back two_front i within)
+    (quarter zeros a b sum none added low.result.1 high.result.1 two.result.1 1 1 (omega arith) (omega arith)
+    low.ensures.back high.ensures.back two.ensures.back i within)
     k less
