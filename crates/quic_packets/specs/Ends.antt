@@ -131,8 +131,8 @@ in_phase (Some s) phase = if differ s.phase phase then Some (updated_by s s.secr
 abbrev pub following : Option Sender → (was now : Bool) → Option Sender
 following sender was now = if differ was now then in_phase sender now else sender
 
--- The key update by which the peer has entered a phase that this end's sender is in or not: it answers one that this end has
--- initiated if the sender is in that phase, and has initiated one otherwise (RFC 9001 sections 6.1 and 6.2).
+-- What a key update of the peer is that brings it to this key phase. If this end's sender is in that phase already, this end has
+-- initiated the update, and the peer answers it. Otherwise the peer has initiated it (RFC 9001 sections 6.1 and 6.2).
 abbrev pub update_into : Option Sender → (phase : Bool) → PeerUpdate
 update_into None phase = Initiated
 update_into (Some s) phase = if differ s.phase phase then Initiated else Answered

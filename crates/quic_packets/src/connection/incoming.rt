@@ -22,7 +22,7 @@ pub struct Step {
 pub enum PeerUpdate {
     /// The peer has initiated it, and this end's sender, if it is there, has followed it (RFC 9001 section 6.2).
     Initiated,
-    /// The peer answers the key update that this end has initiated.
+    /// This end has initiated it, and the peer has answered: it sends under the next keys too.
     Answered,
 }
 
