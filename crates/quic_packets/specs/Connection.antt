@@ -25,7 +25,8 @@ use Rattle.quic_packets.specs.declared.fixed_bit.FixedBit.{FixedBit}
 use Rattle.quic_packets.specs.declared.receiver.Received.{Received}
 
 -- an end: its three levels; the receiver of 0-RTT packets, which shares the space of 1-RTT, and whether its keys were dropped;
--- the packets that have failed authentication; how many packets a new sender may seal; and what the fixed bit of a packet must be
+-- the packets that have failed authentication; how many packets a new sender may seal; and what the fixed bit must be of a packet
+-- that arrives and, for the peer, of a packet that is sent
 pub record Connection : Type 0 where
   pub initial : Ends
   pub handshake : Ends
@@ -35,6 +36,7 @@ pub record Connection : Type 0 where
   pub failures : Failures
   pub limit : ℕ
   pub fixed_bit : FixedBit
+  pub peer_fixed_bit : FixedBit
 
 abbrev pub ends_of : Connection → Level → Ends
 ends_of c InitialLevel = c.initial

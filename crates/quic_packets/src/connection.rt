@@ -63,7 +63,10 @@ pub struct Connection {
     is_zero_rtt_discarded: bool,
     failures: Failures,
     limit: u64,
+    /// What the fixed bit of a packet that arrives must be.
     fixed_bit: FixedBit,
+    /// What the fixed bit of a packet that is sent must be.
+    peer_fixed_bit: FixedBit,
 }
 
 impl Model for Connection {
@@ -80,6 +83,7 @@ impl Model for Connection {
       failures = c.failures;
       limit = c.limit;
       fixed_bit = c.fixed_bit;
+      peer_fixed_bit = c.peer_fixed_bit;
     } };
 }
 
@@ -87,7 +91,8 @@ impl Connection {
     /// Creates an end without keys, whose keys may each seal 2^23 packets, and which takes 2^52 failures (RFC 9001 section 6.6).
     ///
     /// `fixed_bit` is what the fixed bit of a packet that arrives must be: `Greased` if this end sends the transport parameter
-    /// `grease_quic_bit` (RFC 9287 section 3).
+    /// `grease_quic_bit` (RFC 9287 section 3). The fixed bit of a packet that is sent must be 1 until `set_peer_fixed_bit`
+    /// allows 0.
     pub fn new(fixed_bit: FixedBit) -> Self
         ensures { result ≡ record {
           initial = no_ends;
@@ -98,6 +103,7 @@ impl Connection {
           failures = record { count = 0; limit = 2 ^ 52 };
           limit = 2 ^ 23;
           fixed_bit = fixed_bit;
+          peer_fixed_bit = Required;
         } }
     {
         Connection {
@@ -109,6 +115,7 @@ impl Connection {
             failures: Failures::new(),
             limit: CONFIDENTIALITY_LIMIT,
             fixed_bit,
+            peer_fixed_bit: FixedBit::Required,
         }
     }
 
@@ -127,6 +134,27 @@ impl Connection {
     {
         self.failures = self.failures.with_limit(limit);
         self
+    }
+
+    /// Sets what the fixed bit of a packet that is sent must be. It is `Required` at first, and `Greased` once this end has
+    /// processed the peer's transport parameters and `grease_quic_bit` is one of them (RFC 9287 section 3.1). From then on the
+    /// caller should choose the bit of each packet so that it can't be predicted, in the header that it passes to `send`:
+    /// `LongHeader::write` and `ShortHeader::write` set the bit to 1.
+    ///
+    /// A client that has no transport parameters of the server yet may set `Greased` only if its Initial packets have the token
+    /// of a NEW_TOKEN frame that it received within the last seven days, on a connection on which the server sent
+    /// `grease_quic_bit`. A server may not rely on an earlier connection (section 3.1).
+    pub fn set_peer_fixed_bit(&mut self, fixed_bit: FixedBit)
+        ensures { self.new ≡ record self.old { peer_fixed_bit = fixed_bit } }
+    {
+        self.peer_fixed_bit = fixed_bit;
+    }
+
+    /// Returns what the fixed bit of a packet that is sent must be.
+    pub fn peer_fixed_bit(&self) -> FixedBit
+        ensures { result ≡ self.now.peer_fixed_bit }
+    {
+        self.peer_fixed_bit
     }
 
     /// Returns the number of packets that have failed authentication, over all levels and key updates.
@@ -308,7 +336,8 @@ impl Connection {
     }
 
     /// Sends a packet of a level, as `Sender::send` does, and returns its number and whether a key update followed it. The packet
-    /// is the header, which ends with room for the number, the payload, and 16 bytes for the tag. Its fixed bit is 1.
+    /// is the header, which ends with room for the number, the payload, and 16 bytes for the tag. Its fixed bit is the caller's
+    /// choice if the peer allows 0, and 1 otherwise (see `set_peer_fixed_bit`).
     ///
     /// After a 1-RTT packet, the keys are updated where they may be (see `update_keys`) once fewer than 2^16 packets are left to
     /// the key, or fewer than half of a lower limit; and the receiver's next key is set, since the packet may bring the
@@ -327,9 +356,10 @@ impl Connection {
         ensures used_up { IfSome (ends_of self.old level).sender (λ s. IsErrOf result SendError.KeyUsedUp
             ↔ (left s ≤ kept_at self.old level)) }
         ensures accepted { IfSome (ends_of self.old level).sender (λ s. IsOk result ↔ ((kept_at self.old level < left s)
-            × IsSealable s.version Required number.start number.end packet.old × IsInTurn s number.start number.end)) }
+            × IsSealable s.version self.old.peer_fixed_bit number.start number.end packet.old
+            × IsInTurn s number.start number.end)) }
         ensures refused { IfSome (ends_of self.old level).sender (λ s. kept_at self.old level < left s
-            → Refuses s Required number.start number.end packet.old result) }
+            → Refuses s self.old.peer_fixed_bit number.start number.end packet.old result) }
         ensures sent { IfSome (ends_of self.old level).sender (λ s. OnOk result
             (IsSent s number.start number.end packet.old packet.new)) }
         ensures number { IfSome (ends_of self.old level).sender (λ s. IfOk result (λ p. p
@@ -339,9 +369,11 @@ impl Connection {
         ensures kept { OnErr result ((packet.new ≡ packet.old) × (self.new ≡ self.old)) }
     {
         match level {
-            Level::Initial => self.initial.send(packet, number, 1),
-            Level::Handshake => self.handshake.send(packet, number, 1),
-            Level::OneRtt => self.one_rtt.send_one_rtt(packet, number),
+            Level::Initial => self.initial.send(packet, number, self.peer_fixed_bit, 1),
+            Level::Handshake => self.handshake.send(packet, number, self.peer_fixed_bit, 1),
+            Level::OneRtt => self
+                .one_rtt
+                .send_one_rtt(packet, number, self.peer_fixed_bit),
         }
     }
 
@@ -358,9 +390,10 @@ impl Connection {
         ensures no_keys { IsErrOf result SendError.NoKeys ↔ ¬ IsSome (ends_of self.old level).sender }
         ensures used_up { IfSome (ends_of self.old level).sender (λ s. IsErrOf result SendError.KeyUsedUp ↔ (left s ≤ 0)) }
         ensures accepted { IfSome (ends_of self.old level).sender (λ s. IsOk result ↔ ((0 < left s)
-            × IsSealable s.version Required number.start number.end packet.old × IsInTurn s number.start number.end)) }
+            × IsSealable s.version self.old.peer_fixed_bit number.start number.end packet.old
+            × IsInTurn s number.start number.end)) }
         ensures refused { IfSome (ends_of self.old level).sender (λ s. 0 < left s
-            → Refuses s Required number.start number.end packet.old result) }
+            → Refuses s self.old.peer_fixed_bit number.start number.end packet.old result) }
         ensures sent { IfSome (ends_of self.old level).sender (λ s. OnOk result
             (IsSent s number.start number.end packet.old packet.new)) }
         ensures number { IfSome (ends_of self.old level).sender (λ s. IfOk result (λ p. p ≡ sent_as s false)) }
@@ -369,9 +402,9 @@ impl Connection {
         ensures kept { OnErr result ((packet.new ≡ packet.old) × (self.new ≡ self.old)) }
     {
         match level {
-            Level::Initial => self.initial.send(packet, number, 0),
-            Level::Handshake => self.handshake.send(packet, number, 0),
-            Level::OneRtt => self.one_rtt.send(packet, number, 0),
+            Level::Initial => self.initial.send(packet, number, self.peer_fixed_bit, 0),
+            Level::Handshake => self.handshake.send(packet, number, self.peer_fixed_bit, 0),
+            Level::OneRtt => self.one_rtt.send(packet, number, self.peer_fixed_bit, 0),
         }
     }
 

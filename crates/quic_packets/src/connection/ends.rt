@@ -7,7 +7,6 @@ ghost use Rattle.quic_packets.specs.Ends.{Installs, Refuses, after_discard, conf
 ghost use Rattle.quic_packets.specs.Keys.{secret_header_key, secret_key};
 ghost use Rattle.quic_packets.specs.Receiving.{new_receiver};
 ghost use Rattle.quic_packets.specs.Sending.{IsInTurn, IsSealable, IsSent, IsUnanswered, after_acknowledgement, is_unsent};
-ghost use Rattle.quic_packets.specs.declared.fixed_bit.FixedBit.TheVariants.{Required};
 
 use crate::connection::incoming::{Opened, PeerUpdate};
 use crate::datagram::Packet;
@@ -167,14 +166,15 @@ impl Ends {
         &mut self,
         packet: &mut [u8],
         number: Range<usize>,
+        fixed_bit: FixedBit,
         kept_back: u64,
     ) -> Result<SentPacket, SendError>
         ensures no_keys { IsErrOf result SendError.NoKeys ↔ ¬ IsSome self.old.sender }
         ensures used_up { IfSome self.old.sender (λ s. IsErrOf result SendError.KeyUsedUp ↔ (left s ≤ kept_back)) }
         ensures accepted { IfSome self.old.sender (λ s. IsOk result ↔ ((kept_back < left s)
-            × IsSealable s.version Required number.start number.end packet.old × IsInTurn s number.start number.end)) }
+            × IsSealable s.version fixed_bit number.start number.end packet.old × IsInTurn s number.start number.end)) }
         ensures refused { IfSome self.old.sender (λ s. kept_back < left s
-            → Refuses s Required number.start number.end packet.old result) }
+            → Refuses s fixed_bit number.start number.end packet.old result) }
         ensures sent { IfSome self.old.sender (λ s. OnOk result (IsSent s number.start number.end packet.old packet.new)) }
         ensures number { IfSome self.old.sender (λ s. IfOk result (λ p. p ≡ sent_as s false)) }
         ensures counted { IfSome self.old.sender (λ s. OnOk result (self.new ≡ sent self.old s)) }
@@ -186,7 +186,7 @@ impl Ends {
         if sender.limit().saturating_sub(sender.sealed()) <= kept_back {
             return Err(SendError::KeyUsedUp);
         }
-        let number = sender.send(packet, number, FixedBit::Required)?;
+        let number = sender.send(packet, number, fixed_bit)?;
         Ok(SentPacket {
             number,
             keys_updated: false,
@@ -198,21 +198,22 @@ impl Ends {
         &mut self,
         packet: &mut [u8],
         number: Range<usize>,
+        fixed_bit: FixedBit,
     ) -> Result<SentPacket, SendError>
         ensures no_keys { IsErrOf result SendError.NoKeys ↔ ¬ IsSome self.old.sender }
         ensures used_up { IfSome self.old.sender (λ s. IsErrOf result SendError.KeyUsedUp
             ↔ (left s ≤ kept_back self.old)) }
         ensures accepted { IfSome self.old.sender (λ s. IsOk result ↔ ((kept_back self.old < left s)
-            × IsSealable s.version Required number.start number.end packet.old × IsInTurn s number.start number.end)) }
+            × IsSealable s.version fixed_bit number.start number.end packet.old × IsInTurn s number.start number.end)) }
         ensures refused { IfSome self.old.sender (λ s. kept_back self.old < left s
-            → Refuses s Required number.start number.end packet.old result) }
+            → Refuses s fixed_bit number.start number.end packet.old result) }
         ensures sent { IfSome self.old.sender (λ s. OnOk result (IsSent s number.start number.end packet.old packet.new)) }
         ensures number { IfSome self.old.sender (λ s. IfOk result (λ p. p ≡ sent_as s (renews (sent self.old s)))) }
         ensures counted { IfSome self.old.sender (λ s. OnOk result (self.new ≡ with_next_key (renewed (sent self.old s)))) }
         ensures kept { OnErr result ((packet.new ≡ packet.old) × (self.new ≡ self.old)) }
     {
         let kept_back = self.kept_back();
-        let sent = self.send(packet, number, kept_back)?;
+        let sent = self.send(packet, number, fixed_bit, kept_back)?;
         let keys_updated = self.renew();
         self.set_next_key();
         Ok(SentPacket {

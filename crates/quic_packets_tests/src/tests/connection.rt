@@ -60,7 +60,8 @@ const MAX_KEPT: usize = 16;
 const MAX_KEPT_BYTES: usize = 4096;
 
 /// One end, the packets that it keeps until their keys are there, the bytes for which it has room, and what it has received: how
-/// many packets, the last number of a 1-RTT packet, and the key updates of the peer.
+/// many packets, the last number of a 1-RTT packet, and the key updates of the peer. The last field is the next byte in place of
+/// random ones.
 #[derive(Drop)]
 struct End {
     connection: Connection,
@@ -69,7 +70,11 @@ struct End {
     count: u8,
     last: u8,
     updates: Vec<PeerUpdate>,
+    random: u8,
 }
+
+/// Clears the fixed bit of a first byte.
+const CLEAR_FIXED_BIT: u8 = 0xbf;
 
 /// The secret of version 1 with these bytes.
 fn secret(bytes: [u8; 32]) -> QuicSecret {
@@ -85,6 +90,7 @@ fn with_nothing_received(alloc: Global, connection: Connection) -> End {
         count: 0,
         last: NONE,
         updates: Vec::new(alloc),
+        random: 0,
     }
 }
 
@@ -102,7 +108,7 @@ fn install_initial(
 fn make_end(alloc: Global, is_client: bool) -> Result<End, Fail> {
     let client = QuicSecret::client_initial(Version::One, &ID)?;
     let server = QuicSecret::server_initial(Version::One, &ID)?;
-    let mut connection = Connection::new(FixedBit::Required);
+    let mut connection = Connection::new(FixedBit::Greased);
     if is_client {
         install_initial(&mut connection, client, server)?;
     } else {
@@ -180,10 +186,11 @@ fn frames(
     Ok(())
 }
 
-/// Takes a message, which may bring keys.
+/// Takes a message, which may bring keys. Those with the transport parameters allow a fixed bit of 0.
 fn take_message(connection: &mut Connection, message: u8) -> Result<(), KeyError> {
     match message {
         CLIENT_HELLO => {
+            connection.set_peer_fixed_bit(FixedBit::Greased);
             connection.install_zero_rtt_receiver(secret(EARLY))?;
             connection.install_sender(Level::Handshake, secret(SERVER_HANDSHAKE))?;
             connection.install_receiver(Level::Handshake, secret(CLIENT_HANDSHAKE))?;
@@ -194,6 +201,7 @@ fn take_message(connection: &mut Connection, message: u8) -> Result<(), KeyError
             connection.install_receiver(Level::Handshake, secret(SERVER_HANDSHAKE))?;
         }
         SERVER_FINISHED => {
+            connection.set_peer_fixed_bit(FixedBit::Greased);
             connection.install_sender(Level::OneRtt, secret(CLIENT))?;
             connection.install_receiver(Level::OneRtt, secret(SERVER))?;
         }
@@ -234,6 +242,15 @@ fn unsent(alloc: Global, header: &[u8], payload: [u8; 4]) -> Result<Vec<u8>, Fai
     Ok(packet)
 }
 
+/// Clears the fixed bit of a packet before it is sent, if a random byte is even and the peer allows that.
+fn vary(connection: &Connection, packet: &mut [u8], random: u8) {
+    if random % 2 == 0 && connection.peer_fixed_bit() == FixedBit::Greased {
+        if let Some(first) = packet.first_mut() {
+            *first &= CLEAR_FIXED_BIT;
+        }
+    }
+}
+
 /// Sends a packet with a message, which acknowledges the last 1-RTT packet.
 fn send(
     alloc: Global,
@@ -244,6 +261,8 @@ fn send(
     let (header, level) = header(packet_type);
     let mut packet = unsent(alloc, header, [message, end.last, 0, 0])?;
     let at = header.len();
+    end.random = end.random.wrapping_mul(5).wrapping_add(77);
+    vary(&end.connection, &mut packet, end.random);
     end.connection
         .send(level, &mut packet, at..at.saturating_add(4))?;
     Ok(packet)
@@ -394,9 +413,16 @@ fn whole_connection(rt: HostRuntime) -> Result<(), Fail> {
 
 /// An end that sends and receives under these secrets at the levels of Handshake and 1-RTT packets.
 fn established(own: [u8; 32], peer: [u8; 32]) -> Result<Connection, KeyError> {
-    let mut connection = Connection::new(FixedBit::Required)
-        .with_limit(4)
-        .with_max_failures(2);
+    with_secrets(Connection::new(FixedBit::Required), own, peer)
+}
+
+/// The same, of an end without keys.
+fn with_secrets(
+    connection: Connection,
+    own: [u8; 32],
+    peer: [u8; 32],
+) -> Result<Connection, KeyError> {
+    let mut connection = connection.with_limit(4).with_max_failures(2);
     for level in [Level::Handshake, Level::OneRtt] {
         connection.install_sender(level, secret(own))?;
         connection.install_receiver(level, secret(peer))?;
@@ -630,7 +656,7 @@ fn first_without_fixed_bit(alloc: Global) -> Result<Vec<u8>, Fail> {
     peer.install_sender(Level::Initial, initial)?;
     let mut datagram = sent(alloc, &mut peer, PacketType::Initial)?;
     if let Some(first) = datagram.first_mut() {
-        *first &= 0xbf;
+        *first &= CLEAR_FIXED_BIT;
     }
     datagram.extend_from_slice(&first_packet(alloc, PacketType::Handshake)?)?;
     Ok(datagram)
@@ -797,6 +823,39 @@ fn floods(rt: HostRuntime) -> Result<(), Fail> {
         receive_kept(rt.alloc(), &mut end)?;
         receive_flood(rt.alloc(), &mut end, header, *len)?;
         equal(&rt, &end.kept.len(), &0);
+    }
+    Ok(())
+}
+
+/// Asserts that a packet of this type whose fixed bit is 0 is sent only once the peer allows that, and that only an end which
+/// allows it receives the packet.
+fn without_fixed_bit(rt: &impl Abort, alloc: Global, packet_type: PacketType) -> Result<(), Fail> {
+    let mut from = established(CLIENT, SERVER)?;
+    let (header, level) = header(packet_type);
+    let mut packet = unsent(alloc, header, [PING, NONE, 0, 0])?;
+    if let Some(first) = packet.first_mut() {
+        *first &= CLEAR_FIXED_BIT;
+    }
+    let number = header.len()..header.len().saturating_add(4);
+    let refused = from.send(level, &mut packet, number.clone()?);
+    equal(rt, &refused, &Err(SendError::NoFixedBit));
+    from.set_peer_fixed_bit(FixedBit::Greased);
+    from.send(level, &mut packet, number)?;
+    for (fixed_bit, wanted) in [
+        (FixedBit::Required, "ignored"),
+        (FixedBit::Greased, "received"),
+    ] {
+        let mut to = with_secrets(Connection::new(fixed_bit), SERVER, CLIENT)?;
+        becomes(rt, &mut to, &mut packet, &ID, Ok(wanted));
+    }
+    Ok(())
+}
+
+// Packets with a long header and with a short one whose fixed bit is 0.
+#[test]
+fn fixed_bits(rt: HostRuntime) -> Result<(), Fail> {
+    for packet_type in [PacketType::Handshake, PacketType::OneRtt] {
+        without_fixed_bit(&rt, rt.alloc(), packet_type)?;
     }
     Ok(())
 }

@@ -18,5 +18,6 @@ returns-clause-received c =
       failures = c.open_with.new.failures;
       limit = was.limit;
       fixed_bit = was.fixed_bit;
+      peer_fixed_bit = was.peer_fixed_bit;
     } in
     rw (← c.self.view_is) (ap with_one_rtt c.open_with.ensures.ends)

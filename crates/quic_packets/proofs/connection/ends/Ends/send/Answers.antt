@@ -2,7 +2,6 @@ use Rattle.std.proofs.Common.{◌≡◌, ℕ, ◌<◌, ◌↔◌, Some, Err, IfS
 use Rattle.std.proofs.lemmas.Result.{err_from_is_err_and}
 use Rattle.quic_packets.specs.Ends.{Refuses, left}
 use Rattle.quic_packets.specs.declared.connection.ends.SentPacket.{SentPacket}
-use Rattle.quic_packets.specs.declared.fixed_bit.FixedBit.TheVariants.{Required}
 use Rattle.quic_packets.specs.declared.send_error.SendError.{SendError}
 use Rattle.quic_packets.proofs.connection.ends.Ends.send.Goals as goal
 
@@ -21,7 +20,7 @@ returns-in_err-number-clause-refused c =
     let there : a.self.now.sender ≡ Some s = search rules in
     rw (p.1, p.2)
     (subst (λ o. IfSome o (λ s. a.kept_back < left s
-    → Refuses s Required a.number.start a.number.end a.packet.now (Err e))) (sym there)
+    → Refuses s a.fixed_bit a.number.start a.number.end a.packet.now (Err e))) (sym there)
     (λ more. (
     let unused : s.sealed < s.limit = omega (arith, more) in
     record {
