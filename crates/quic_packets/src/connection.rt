@@ -13,7 +13,7 @@ ghost use Rattle.quic_packets.specs.Errors.{receive_error_code};
 ghost use Rattle.quic_packets.specs.Header.{HasSample};
 ghost use Rattle.quic_packets.specs.Keys.{secret_header_key, secret_key};
 ghost use Rattle.quic_packets.specs.Receiving.{Outcome, Reads, new_receiver};
-ghost use Rattle.quic_packets.specs.Sending.{IsInTurn, IsSealable, IsSent, IsUnanswered, after_acknowledgement, is_unsent};
+ghost use Rattle.quic_packets.specs.Sending.{IsInTurn, IsSealable, IsSent, IsUnanswered, after_acknowledgement, after_skip, is_unsent};
 ghost use Rattle.quic_packets.specs.Space.{IsNew, Marks};
 ghost use Rattle.quic_packets.specs.Versions.{is_other_version};
 ghost use Rattle.quic_packets.specs.declared.fixed_bit.FixedBit.TheVariants.{Required};
@@ -303,6 +303,30 @@ impl Connection {
         ensures kept { OnErr result (self.new ≡ self.old) }
     {
         self.one_rtt.update_keys()
+    }
+
+    /// Leaves the numbers of a level below `number` unused, as `Sender::skip_to` does, so that `number` is that of its next
+    /// packet. A peer that acknowledges one of them has not received it (RFC 9000 section 21.4), and `acknowledged` rejects that
+    /// while the number is in one of the eight highest ranges of skipped numbers.
+    ///
+    /// Fails with `NoKeys` if the level has no sender, with `NumberUsed` if its next number is already above `number`, and with
+    /// `NumbersEnded` if `number` is above 2^62. The connection is then unchanged.
+    pub fn skip_to(&mut self, level: Level, number: u64) -> Result<(), NumberError>
+        ensures no_keys { IsErrOf result NumberError.NoKeys ↔ ¬ IsSome (ends_of self.old level).sender }
+        ensures used { IfSome (ends_of self.old level).sender (λ s. IsErrOf result NumberError.NumberUsed ↔ (number < s.next)) }
+        ensures ended { IfSome (ends_of self.old level).sender (λ s. IsErrOf result NumberError.NumbersEnded
+            ↔ (2 ^ 62 < number)) }
+        ensures accepted { IfSome (ends_of self.old level).sender (λ s. IsOk result
+            ↔ ((s.next ≤ number) × (number ≤ 2 ^ 62))) }
+        ensures skipped { IfSome (ends_of self.old level).sender (λ s. OnOk result (self.new
+            ≡ with_ends self.old level (record (ends_of self.old level) { sender = Some (after_skip s number) }))) }
+        ensures kept { OnErr result (self.new ≡ self.old) }
+    {
+        match level {
+            Level::Initial => self.initial.skip_to(number),
+            Level::Handshake => self.handshake.skip_to(number),
+            Level::OneRtt => self.one_rtt.skip_to(number),
+        }
     }
 
     /// Records that the peer has acknowledged the packet of a level with this number, in a packet with this Key Phase bit

@@ -1,12 +1,12 @@
 //! The keys of an encryption level, for both directions, and its space of packet numbers.
 
-ghost use Rattle.std.specs.Prelude.{◌≡◌, ◌<◌, ◌≤◌, ◌↔◌, false, Some, None, IsFalse, IsTrue, IsSome, IfSome, IsOk, IfOk, IsErrOf, IsOkUnless, OnOk, OnErr};
+ghost use Rattle.std.specs.Prelude.{◌≡◌, ◌^◌, ◌<◌, ◌≤◌, ◌↔◌, false, Some, None, IsFalse, IsTrue, IsSome, IfSome, IsOk, IfOk, IsErrOf, IsOkUnless, OnOk, OnErr};
 ghost use Rattle.std.specs.Option.{option_copied};
 ghost use Rattle.quic_packets.specs.Connection.{IsTried};
 ghost use Rattle.quic_packets.specs.Ends.{Installs, Refuses, after_discard, confirmed, following, forgotten, in_phase, initiated, installed, is_confirmed, is_due, kept_back, left, may_update, no_ends, peer_update, phase_of, renewed, renews, sent, sent_as, update_into, with_next_key};
 ghost use Rattle.quic_packets.specs.Keys.{secret_header_key, secret_key};
 ghost use Rattle.quic_packets.specs.Receiving.{new_receiver};
-ghost use Rattle.quic_packets.specs.Sending.{IsInTurn, IsSealable, IsSent, IsUnanswered, after_acknowledgement, is_unsent};
+ghost use Rattle.quic_packets.specs.Sending.{IsInTurn, IsSealable, IsSent, IsUnanswered, after_acknowledgement, after_skip, is_unsent};
 
 use crate::connection::incoming::{Opened, PeerUpdate};
 use crate::datagram::Packet;
@@ -278,6 +278,22 @@ impl Ends {
         ensures is { result ≡ renews self.old }
     {
         self.is_due() && self.update_keys().is_ok()
+    }
+
+    /// Leaves the sender's numbers below `number` unused.
+    pub(crate) fn skip_to(&mut self, number: u64) -> Result<(), NumberError>
+        ensures no_keys { IsErrOf result NumberError.NoKeys ↔ ¬ IsSome self.old.sender }
+        ensures used { IfSome self.old.sender (λ s. IsErrOf result NumberError.NumberUsed ↔ (number < s.next)) }
+        ensures ended { IfSome self.old.sender (λ s. IsErrOf result NumberError.NumbersEnded ↔ (2 ^ 62 < number)) }
+        ensures accepted { IfSome self.old.sender (λ s. IsOk result ↔ ((s.next ≤ number) × (number ≤ 2 ^ 62))) }
+        ensures skipped { IfSome self.old.sender (λ s. OnOk result
+            (self.new ≡ record self.old { sender = Some (after_skip s number) })) }
+        ensures kept { OnErr result (self.new ≡ self.old) }
+    {
+        match &mut self.sender {
+            Some(sender) => sender.skip_to(number),
+            None => Err(NumberError::NoKeys),
+        }
     }
 
     /// Records an acknowledgment.

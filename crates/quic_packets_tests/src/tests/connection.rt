@@ -242,13 +242,24 @@ fn unsent(alloc: Global, header: &[u8], payload: [u8; 4]) -> Result<Vec<u8>, Fai
     Ok(packet)
 }
 
-/// Clears the fixed bit of a packet before it is sent, if a random byte is even and the peer allows that.
-fn vary(connection: &Connection, packet: &mut [u8], random: u8) {
+/// Before a packet of a level is sent, skips a number if a random byte is below 64, and clears the packet's fixed bit if the byte
+/// is even and the peer allows that.
+fn vary(
+    connection: &mut Connection,
+    level: Level,
+    packet: &mut [u8],
+    random: u8,
+) -> Result<(), NumberError> {
+    if random < 64 {
+        let next = connection.sender(level).map_or(0, Sender::next_number);
+        connection.skip_to(level, next.saturating_add(1))?;
+    }
     if random % 2 == 0 && connection.peer_fixed_bit() == FixedBit::Greased {
         if let Some(first) = packet.first_mut() {
             *first &= CLEAR_FIXED_BIT;
         }
     }
+    Ok(())
 }
 
 /// Sends a packet with a message, which acknowledges the last 1-RTT packet.
@@ -262,7 +273,7 @@ fn send(
     let mut packet = unsent(alloc, header, [message, end.last, 0, 0])?;
     let at = header.len();
     end.random = end.random.wrapping_mul(5).wrapping_add(77);
-    vary(&end.connection, &mut packet, end.random);
+    vary(&mut end.connection, level, &mut packet, end.random)?;
     end.connection
         .send(level, &mut packet, at..at.saturating_add(4))?;
     Ok(packet)
@@ -858,4 +869,43 @@ fn fixed_bits(rt: HostRuntime) -> Result<(), Fail> {
         without_fixed_bit(&rt, rt.alloc(), packet_type)?;
     }
     Ok(())
+}
+
+/// Skips up to a number at a level, and the outcomes.
+const SKIPS: [(Level, u64, Result<(), NumberError>); 5] = [
+    (Level::Initial, 1, Err(NumberError::NoKeys)),
+    (Level::Handshake, 1, Err(NumberError::NoKeys)),
+    (Level::OneRtt, 7, Ok(())),
+    (Level::OneRtt, 6, Err(NumberError::NumberUsed)),
+    (
+        Level::OneRtt,
+        0x4000_0000_0000_0001,
+        Err(NumberError::NumbersEnded),
+    ),
+];
+
+/// Acknowledgments of the last number that was skipped, and of the one after it, and the outcomes.
+const AFTER_SKIP: [(u64, Result<(), NumberError>); 2] = [
+    (6, Err(NumberError::NeverSent)),
+    (7, Ok(())),
+];
+
+/// Asserts the outcomes of an end that has no Initial keys and drops its Handshake keys.
+fn skips(rt: &impl Abort, alloc: Global, end: &mut Connection) -> Result<(), Fail> {
+    end.discard(Level::Handshake);
+    for (level, number, outcome) in &SKIPS {
+        equal(rt, &end.skip_to(*level, *number), outcome);
+    }
+    let _ = sent(alloc, end, PacketType::OneRtt)?;
+    for (number, outcome) in &AFTER_SKIP {
+        let found = end.acknowledged(Level::OneRtt, *number, false);
+        equal(rt, &found, outcome);
+    }
+    Ok(())
+}
+
+// The numbers of a level are skipped, if it has keys, and an acknowledgment of one of them is an error.
+#[test]
+fn skipped_numbers(rt: HostRuntime) -> Result<(), Fail> {
+    skips(&rt, rt.alloc(), &mut established(SERVER, CLIENT)?)
 }
