@@ -1,6 +1,6 @@
 -- The packet at a byte of a datagram, and the step past it, whether a receiver has tried it or not.
-use Rattle.std.proofs.Common.{◌≡◌, ℕ, ◌+◌, ◌-◌, ◌<◌, ◌≤◌, ◌↔◌, ◌⊎◌, Bool, true, false, inl, inr, List, length, Option, None, Some, Ok, Err, Result, OnErr, IsErrOf, IfErr, IfSome, IsSome, IsFalse, IsTrue, is_some, if◌then◌else◌, unwrap_or, slice_index, refl, sym, ap, subst, arith, ◌∙◌}
-use Rattle.quic_packets.specs.Connection.{Connection, IfPacket, IsGiven, IsOpening, IsOwn, IsPacketAt, IsStranger, IsTried, IsUnopened, IsWithoutKeys, end_of, incoming_of, is_discarded, is_opened, opened_as, opened_of, packet_in, receiver_of, space_of, step_of, with_receiver, with_sender}
+use Rattle.std.proofs.Common.{◌≡◌, ℕ, ◌+◌, ◌-◌, ◌<◌, ◌≤◌, ◌↔◌, ◌⊎◌, Bool, true, false, inl, inr, List, length, Option, None, Some, Ok, Err, Result, OnErr, IsErrOf, IfOk, IfErr, IfSome, IsSome, IsFalse, IsTrue, is_some, if◌then◌else◌, unwrap_or, slice_index, refl, sym, ap, subst, arith, ◌∙◌}
+use Rattle.quic_packets.specs.Connection.{Connection, IfPacket, IsGiven, IsOpening, IsOwn, IsPacketAt, IsStranger, IsTried, IsUnopened, IsWithoutKeys, end_of, incoming_of, is_discarded, is_opened, opened_as, opened_of, packet_in, receiver_of, space_of, step_of, update_of, with_receiver, with_sender}
 use Rattle.quic_packets.specs.Datagram.{bytes_of, number_in, packet_of}
 use Rattle.quic_packets.specs.Errors.{receive_error_code}
 use Rattle.quic_packets.specs.Header.{HasSample}
@@ -12,7 +12,7 @@ use Rattle.quic_packets.specs.declared.connection.incoming.PeerUpdate.{PeerUpdat
 use Rattle.quic_packets.specs.declared.connection.incoming.Step.{Step}
 use Rattle.quic_packets.specs.declared.datagram.Packet.{Packet}
 use Rattle.quic_packets.specs.Sending.{Sender}
-use Rattle.quic_packets.specs.Space.{Space}
+use Rattle.quic_packets.specs.Space.{IsNew, Marks, Space}
 use Rattle.quic_packets.specs.Versions.{is_other_version}
 use Rattle.quic_packets.specs.declared.datagram.PacketType.{PacketType}
 use Rattle.quic_packets.specs.declared.datagram.PacketType.TheVariants.{Initial, ZeroRtt, Handshake, Retry, VersionNegotiation, OneRtt, OtherVersion}
@@ -104,6 +104,12 @@ module _ (c : Connection) (id_len : ℕ) (id datagram : List ℕ) (at : ℕ) (pa
       let same = same_parts p is in
       other (subst (IsOwn id datagram) same is.own) (subst (λ p. IsFalse (is_discarded c p.packet_type)) same is.undropped)
 
+  -- its receiver is there
+  pub not_keyless : IsSome (receiver_of c parts.packet_type) → (t : PacketType)
+      → ((p : Packet) × IsPacketAt c id_len id datagram at p × (p.packet_type ≡ t) × (IsSome (receiver_of c t) → ⊥)) → ⊥
+  not_keyless held t d =
+      d.3 (subst (λ t. IsSome (receiver_of c t)) (sym (ap (λ p. p.packet_type) (same_parts d.0 d.1)) ∙ d.2) held)
+
   -- a packet that isn't opened
   module _ (begins : parts.start ≡ at) (some : parts.start < parts.end) (within : parts.end ≤ length datagram) where
     past : (i : Incoming) → IsStranger c id_len id datagram at i ⊎ IsWithoutKeys c id_len id datagram at i
@@ -175,6 +181,49 @@ module _ (c : Connection) (id_len : ℕ) (id datagram : List ℕ) (at : ℕ) (pa
           λ d. is.1 (it.no_sample.1 (opening.receiving, within, d.0, d.1, d.2)),
         ))
 
+    by_step : (P : Result Received ReceiveError → Result Step ReceiveError → Type 0)
+        → ((r : Received) → P (Ok r) (Ok (record { next = parts.end; incoming = PacketOf parts.packet_type r u })))
+        → ((e : ReceiveError) → P (Err e) (Err e))
+        → ((e : ReceiveError) → P (Err e) (Ok (record { next = parts.end; incoming = Dropped e })))
+        → P o result
+    by_step P received closed dropped =
+        subst (P o) (sym stepped) (step_cases P parts.end goes_on parts.packet_type u o received closed dropped)
+
+    -- the next packet begins at the end of this one
+    pub next : IfOk result (λ step. step.next ≡ end_of (packet_of c.fixed_bit id_len datagram at) (length datagram))
+    next =
+        let is : parts.end ≡ end_of (packet_of c.fixed_bit id_len datagram at) (length datagram) =
+        sym (ap (λ p. end_of p (length datagram)) parsed) in
+        by_step (λ o step. IfOk step (λ step. step.next ≡ end_of (packet_of c.fixed_bit id_len datagram at) (length datagram)))
+        (λ r. is) (λ e. tt) (λ e. is)
+
+    pub moves_on : parts.start ≡ at → parts.start < parts.end
+        → IfOk result (λ step. (at < step.next) × (step.next ≤ length datagram))
+    moves_on begins byte =
+        let is : (at < parts.end) × (parts.end ≤ length datagram) = (omega (arith, begins, byte), within) in
+        by_step (λ o step. IfOk step (λ step. (at < step.next) × (step.next ≤ length datagram))) (λ r. is) (λ e. tt) (λ e. is)
+
+    pub with_keys : (t : PacketType) → IsGiven result (NoKeys t) → ⊥
+    with_keys t = by_step (λ o step. IsGiven step (NoKeys t) → ⊥) (λ r is. absurd cc) (λ e is. absurd is) (λ e is. absurd cc)
+
+    -- a packet that is returned has its type, and fulfils what follows from what the receiver returned
+    of_ok : (Q : Received → Type 0) (P : PacketType → Received → Type 0) → ((r : Received) → Q r → P parts.packet_type r)
+        → IfOk o Q → IfPacket result P
+    of_ok Q P follows =
+        by_step (λ o step. IfOk o Q → IfPacket step P) (λ r q. follows r q) (λ e q. tt) (λ e q. tt)
+
+    pub of_type : (P : PacketType → Type 0) → P parts.packet_type → IfPacket result (λ t r. P t)
+    of_type P its = by_step (λ o step. IfPacket step (λ t r. P t)) (λ r. its) (λ e. tt) (λ e. tt)
+
+    pub updates : (Q : PacketType → Option PeerUpdate) → u ≡ Q parts.packet_type
+        → IfPacket result (λ t r. update_of result ≡ Q t)
+    updates Q is = by_step (λ o step. IfPacket step (λ t r. update_of step ≡ Q t)) (λ r. is) (λ e. tt) (λ e. tt)
+
+    pub dropped : (Q : Type 0) → OnErr o Q → IfOk result (λ step. (IsSome (packet_in step.incoming) → ⊥) → Q)
+    dropped Q =
+        by_step (λ o step. OnErr o Q → IfOk step (λ step. (IsSome (packet_in step.incoming) → ⊥) → Q))
+        (λ r kept none. absurd (none refl)) (λ e kept. tt) (λ e kept none. kept)
+
     -- what becomes of a packet that is long enough for a sample
     abbrev Becomes : Receiver → Packet → Result Received ReceiveError → Type 0
     Becomes r p opened =
@@ -201,6 +250,20 @@ module _ (c : Connection) (id_len : ℕ) (id datagram : List ℕ) (at : ℕ) (pa
 
       at_it : Tried there.0 (unwrap_or (receiver_of c' parts.packet_type) there.0)
       at_it = tried_at Tried (receiver_of c parts.packet_type) (receiver_of c' parts.packet_type) there.0 there.1 some tried
+
+      pub payload : parts.start ≡ at → IfPacket result (λ t r. (at < r.payload.start) × (r.payload.start ≤ r.payload.end)
+          × (r.payload.end + 16 ≤ length datagram))
+      payload begins =
+          of_ok (λ r. (parts.start < r.payload.start) × (r.payload.start ≤ r.payload.end)
+          × (r.payload.end + 16 ≡ parts.end) × (parts.end ≤ length datagram))
+          (λ t r. (at < r.payload.start) × (r.payload.start ≤ r.payload.end) × (r.payload.end + 16 ≤ length datagram))
+          (λ r d. (omega (arith, begins, d.0), d.1, omega (arith, d.2, d.3))) at_it.payload
+
+      pub marked : IfPacket result (λ t r. IsNew (space_of c t) r.number × Marks (space_of c t) r.number (space_of c' t))
+      marked =
+          of_ok (λ r. IsNew (space_of c parts.packet_type) r.number
+          × Marks (space_of c parts.packet_type) r.number (space_of c' parts.packet_type))
+          (λ t r. IsNew (space_of c t) r.number × Marks (space_of c t) r.number (space_of c' t)) (λ r d. d) at_it.marked
 
       pub not_failed : (IsGiven result (Dropped Refused) → ⊥) → c'.failures ≡ c.failures
       not_failed other =

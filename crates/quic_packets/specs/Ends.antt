@@ -27,9 +27,9 @@ pub record Ends : Type 0 where
   pub space : Space
   pub discarded : Bool
 
--- a level without keys, which may come, of which nothing was received
-abbrev pub no_ends : Ends
-no_ends = record { sender = None; receiver = None; space = new_space 2; discarded = false }
+-- a level without keys, which may come, of which nothing was received, with a window of this many words
+abbrev pub no_ends : (words : ℕ) → Ends
+no_ends words = record { sender = None; receiver = None; space = new_space words; discarded = false }
 
 -- a level whose keys were dropped (RFC 9001 section 4.9)
 abbrev pub after_discard : Ends → Ends

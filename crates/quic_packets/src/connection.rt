@@ -52,12 +52,15 @@ pub enum Level {
 
 /// One end of a connection: for each level a sender and a receiver, which are there or not, and the numbers received.
 ///
+/// The window of each level has the `64 * W` numbers up to the largest that was received (`Space`), where `W` is from 2 to 64. A
+/// packet whose number is below the window is dropped as a duplicate, and the ranges of an ACK frame reach no further down.
+///
 /// An error of `receive` or `acknowledged` with a code (`ReceiveError::code`, `NumberError::code`) closes the connection.
 #[derive(Drop)]
-pub struct Connection {
-    initial: Ends,
-    handshake: Ends,
-    one_rtt: Ends,
+pub struct Connection<const W: usize> {
+    initial: Ends<W>,
+    handshake: Ends<W>,
+    one_rtt: Ends<W>,
     zero_rtt: Option<Receiver>,
     /// Whether the keys of 0-RTT packets were dropped or are not taken, so that none can be installed.
     is_zero_rtt_discarded: bool,
@@ -69,7 +72,7 @@ pub struct Connection {
     peer_fixed_bit: FixedBit,
 }
 
-impl Model for Connection {
+impl<const W: usize> Model for Connection<W> {
     ghost use Rattle.quic_packets.specs.Connection.{Connection};
 
     ghost Value = { Connection };
@@ -87,17 +90,19 @@ impl Model for Connection {
     } };
 }
 
-impl Connection {
+impl<const W: usize> Connection<W> {
     /// Creates an end without keys, whose keys may each seal 2^23 packets, and which takes 2^52 failures (RFC 9001 section 6.6).
     ///
     /// `fixed_bit` is what the fixed bit of a packet that arrives must be: `Greased` if this end sends the transport parameter
     /// `grease_quic_bit` (RFC 9287 section 3). The fixed bit of a packet that is sent must be 1 until `set_peer_fixed_bit`
     /// allows 0.
     pub fn new(fixed_bit: FixedBit) -> Self
+        requires some { 2 ≤ W }
+        requires few { W ≤ 64 }
         ensures { result ≡ record {
-          initial = no_ends;
-          handshake = no_ends;
-          one_rtt = no_ends;
+          initial = no_ends W;
+          handshake = no_ends W;
+          one_rtt = no_ends W;
           zero_rtt = None;
           zero_rtt_discarded = false;
           failures = record { count = 0; limit = 2 ^ 52 };
@@ -122,7 +127,7 @@ impl Connection {
     /// Lowers the number of packets that each key may seal to `limit`, for senders that are created after it. A higher limit has
     /// no effect.
     pub fn with_limit(mut self, limit: u64) -> Self
-        ensures { result ≡ record self { limit = min self.limit limit } }
+        ensures { result ≡ record self.entry { limit = min self.entry.limit limit } }
     {
         self.limit = self.limit.min(limit);
         self
@@ -130,7 +135,9 @@ impl Connection {
 
     /// Lowers the limit on packets that fail authentication to `limit`. A higher limit has no effect.
     pub fn with_max_failures(mut self, limit: u64) -> Self
-        ensures { result ≡ record self { failures = record self.failures { limit = min self.failures.limit limit } } }
+        ensures { result ≡ record self.entry {
+          failures = record self.entry.failures { limit = min self.entry.failures.limit limit };
+        } }
     {
         self.failures = self.failures.with_limit(limit);
         self
@@ -178,7 +185,7 @@ impl Connection {
 
     /// Returns the numbers that were received at a level, for an ACK frame (`Space::ranges`). They stay when its keys are
     /// dropped.
-    pub fn space(&self, level: Level) -> &Space<2>
+    pub fn space(&self, level: Level) -> &Space<W>
         ensures { result.now ≡ (ends_of self.now level).space }
     {
         match level {

@@ -37,15 +37,15 @@ const LEFT_AT_UPDATE: u64 = 1 << 16;
 
 /// What an end has of a level.
 #[derive(Drop)]
-pub(crate) struct Ends {
+pub(crate) struct Ends<const W: usize> {
     sender: Option<Sender>,
     receiver: Option<Receiver>,
-    space: Space<2>,
+    space: Space<W>,
     /// Whether the keys were dropped, so that none can be installed.
     is_discarded: bool,
 }
 
-impl Model for Ends {
+impl<const W: usize> Model for Ends<W> {
     ghost use Rattle.std.specs.Prelude.{◌≡◌, true};
     ghost use Rattle.quic_packets.specs.Ends.{Ends, is_derived};
 
@@ -61,10 +61,12 @@ impl Model for Ends {
     ghost invariant = { λ e. is_derived e.sender ≡ true };
 }
 
-impl Ends {
+impl<const W: usize> Ends<W> {
     /// A level without keys.
     pub(crate) fn new() -> Self
-        ensures { result ≡ no_ends }
+        requires some { 2 ≤ W }
+        requires few { W ≤ 64 }
+        ensures { result ≡ no_ends W }
     {
         Ends {
             sender: None,
@@ -82,7 +84,7 @@ impl Ends {
     }
 
     /// The numbers that were received.
-    pub(crate) fn space(&self) -> &Space<2>
+    pub(crate) fn space(&self) -> &Space<W>
         ensures { result.now ≡ self.now.space }
     {
         &self.space

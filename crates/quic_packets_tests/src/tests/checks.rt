@@ -1,5 +1,6 @@
 //! Assertions for tests. They have no contract clauses, so a caller's proof learns nothing about the bytes and stays short.
 
+use quic_packets::Space;
 use std::alloc::AllocError;
 use std::fmt::{Debug, Display};
 use std::process::Abort;
@@ -30,4 +31,13 @@ pub(crate) fn displays(
     let text = displayed(rt.alloc(), value)?;
     assert_eq!(rt; text.as_str(), wanted);
     Ok(())
+}
+
+/// Asserts that these are the ranges of a space, from the highest down.
+pub(crate) fn has_ranges<const W: usize>(rt: &impl Abort, space: &Space<W>, wanted: &[(u64, u64)]) {
+    let mut ranges = space.ranges();
+    for (start, end) in wanted {
+        equal(rt, &ranges.next(), &Some(*start..*end));
+    }
+    equal(rt, &ranges.next(), &None);
 }

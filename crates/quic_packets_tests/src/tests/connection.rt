@@ -1,7 +1,7 @@
 //! Tests of `connection`: a whole connection of a client and a server, which stands in README.md, and what each call does with
 //! packets that are forged, late, or of another connection, and at its limits.
 
-use crate::tests::checks::{equal, holds};
+use crate::tests::checks::{equal, has_ranges, holds};
 use key_derivation::Secret;
 use key_derivation::quic::{QuicSecret, Version};
 use quic_packets::connection::{Connection, Incoming, Level, PeerUpdate, SentPacket};
@@ -64,7 +64,7 @@ const MAX_KEPT_BYTES: usize = 4096;
 /// random ones.
 #[derive(Drop)]
 struct End {
-    connection: Connection,
+    connection: Connection<2>,
     kept: Vec<Vec<u8>>,
     room: usize,
     count: u8,
@@ -82,7 +82,7 @@ fn secret(bytes: [u8; 32]) -> QuicSecret {
 }
 
 /// An end with these keys that has received nothing.
-fn with_nothing_received(alloc: Global, connection: Connection) -> End {
+fn with_nothing_received(alloc: Global, connection: Connection<2>) -> End {
     End {
         connection,
         kept: Vec::new(alloc),
@@ -96,7 +96,7 @@ fn with_nothing_received(alloc: Global, connection: Connection) -> End {
 
 /// Gives an end the secrets of its Initial packets and of the peer's.
 fn install_initial(
-    connection: &mut Connection,
+    connection: &mut Connection<2>,
     own: QuicSecret,
     peer: QuicSecret,
 ) -> Result<(), KeyError> {
@@ -187,7 +187,7 @@ fn frames(
 }
 
 /// Takes a message, which may bring keys. Those with the transport parameters allow a fixed bit of 0.
-fn take_message(connection: &mut Connection, message: u8) -> Result<(), KeyError> {
+fn take_message(connection: &mut Connection<2>, message: u8) -> Result<(), KeyError> {
     match message {
         CLIENT_HELLO => {
             connection.set_peer_fixed_bit(FixedBit::Greased);
@@ -217,7 +217,7 @@ fn take_message(connection: &mut Connection, message: u8) -> Result<(), KeyError
 }
 
 /// The handshake is confirmed, so that its keys are dropped (RFC 9001 sections 4.9.1 and 4.9.2).
-fn finish(connection: &mut Connection) {
+fn finish(connection: &mut Connection<2>) {
     connection.confirm_handshake();
     connection.discard(Level::Initial);
     connection.discard(Level::Handshake);
@@ -245,7 +245,7 @@ fn unsent(alloc: Global, header: &[u8], payload: [u8; 4]) -> Result<Vec<u8>, Fai
 /// Before a packet of a level is sent, skips a number if a random byte is below 64, and clears the packet's fixed bit if the byte
 /// is even and the peer allows that.
 fn vary(
-    connection: &mut Connection,
+    connection: &mut Connection<2>,
     level: Level,
     packet: &mut [u8],
     random: u8,
@@ -423,16 +423,16 @@ fn whole_connection(rt: HostRuntime) -> Result<(), Fail> {
 }
 
 /// An end that sends and receives under these secrets at the levels of Handshake and 1-RTT packets.
-fn established(own: [u8; 32], peer: [u8; 32]) -> Result<Connection, KeyError> {
+fn established(own: [u8; 32], peer: [u8; 32]) -> Result<Connection<2>, KeyError> {
     with_secrets(Connection::new(FixedBit::Required), own, peer)
 }
 
 /// The same, of an end without keys.
-fn with_secrets(
-    connection: Connection,
+fn with_secrets<const W: usize>(
+    connection: Connection<W>,
     own: [u8; 32],
     peer: [u8; 32],
-) -> Result<Connection, KeyError> {
+) -> Result<Connection<W>, KeyError> {
     let mut connection = connection.with_limit(4).with_max_failures(2);
     for level in [Level::Handshake, Level::OneRtt] {
         connection.install_sender(level, secret(own))?;
@@ -444,7 +444,7 @@ fn with_secrets(
 /// Sends a packet of this type, and returns it.
 fn sent(
     alloc: Global,
-    connection: &mut Connection,
+    connection: &mut Connection<2>,
     packet_type: PacketType,
 ) -> Result<Vec<u8>, Fail> {
     let (header, level) = header(packet_type);
@@ -455,9 +455,9 @@ fn sent(
 }
 
 /// Asserts what becomes of a packet that is alone in its datagram.
-fn becomes(
+fn becomes<const W: usize>(
     rt: &impl Abort,
-    connection: &mut Connection,
+    connection: &mut Connection<W>,
     packet: &mut [u8],
     id: &[u8; 8],
     wanted: Result<&str, ReceiveError>,
@@ -538,7 +538,7 @@ const ARRIVALS: [(Arrival, [u8; 8], Result<&str, ReceiveError>, u64); 9] = [
 ];
 
 /// Asserts what becomes of each packet.
-fn arrive(rt: &impl Abort, alloc: Global, end: &mut Connection) -> Result<(), Fail> {
+fn arrive(rt: &impl Abort, alloc: Global, end: &mut Connection<2>) -> Result<(), Fail> {
     for (arrival, id, wanted, failures) in &ARRIVALS {
         let mut packet = bytes_of(alloc, *arrival)?;
         becomes(rt, end, &mut packet, id, *wanted);
@@ -609,7 +609,12 @@ const CLOSING: [Closing; 5] = [
 
 /// Asserts that the packet is returned as an error with its code, again if it comes again, and that the connection is then as it
 /// was: it has counted neither the number nor a failure, has not updated its keys, and receives the packets that follow.
-fn closes(rt: &impl Abort, alloc: Global, end: &mut Connection, row: &Closing) -> Result<(), Fail> {
+fn closes(
+    rt: &impl Abort,
+    alloc: Global,
+    end: &mut Connection<2>,
+    row: &Closing,
+) -> Result<(), Fail> {
     let (packet_type, bits, number, payload, error, code) = *row;
     let mut fifth = authentic(alloc, PacketType::OneRtt, 0, 5, &PINGS)?;
     becomes(rt, end, &mut fifth, &ID, Ok("received"));
@@ -649,7 +654,7 @@ fn authentic_packets_that_close(rt: HostRuntime) -> Result<(), Fail> {
 fn receives_one(
     rt: &impl Abort,
     alloc: Global,
-    connection: Connection,
+    connection: Connection<2>,
     datagram: &mut [u8],
     failures: u64,
 ) -> Result<(), Fail> {
@@ -705,7 +710,7 @@ fn forged_first_packet(rt: HostRuntime) -> Result<(), Fail> {
 /// update followed.
 fn sends_until_used_up(
     alloc: Global,
-    connection: &mut Connection,
+    connection: &mut Connection<2>,
 ) -> Result<(u8, Option<u64>), Fail> {
     let mut last_of_phase = None;
     for count in 0..9 {
@@ -721,7 +726,7 @@ fn sends_until_used_up(
 }
 
 /// Asserts that the last packet of a key is kept for the one that closes the connection.
-fn keeps_one_to_close(rt: &impl Abort, alloc: Global, end: &mut Connection) -> Result<(), Fail> {
+fn keeps_one_to_close(rt: &impl Abort, alloc: Global, end: &mut Connection<2>) -> Result<(), Fail> {
     equal(rt, &sends_until_used_up(alloc, end)?, &(3, None));
     let mut close = unsent(alloc, &ONE_RTT, [PING, NONE, 0, 0])?;
     let closed = end.send_close(Level::OneRtt, &mut close, 9..13);
@@ -742,7 +747,7 @@ const ACKNOWLEDGED: [(u64, bool, Result<(), NumberError>); 3] = [
 
 /// Asserts that the keys are updated when fewer than half of the packets are left, and again after an acknowledgment, and that
 /// `send` tells both.
-fn updates_by_itself(rt: &impl Abort, alloc: Global, end: &mut Connection) -> Result<(), Fail> {
+fn updates_by_itself(rt: &impl Abort, alloc: Global, end: &mut Connection<2>) -> Result<(), Fail> {
     end.confirm_handshake();
     equal(rt, &sends_until_used_up(alloc, end)?, &(6, Some(2)));
     let updated = end.update_keys();
@@ -766,7 +771,7 @@ fn last_packets_of_a_key(rt: HostRuntime) -> Result<(), Fail> {
 #[test]
 fn no_keys(rt: HostRuntime) -> Result<(), Fail> {
     let mut packet = unsent(rt.alloc(), &INITIAL, [PING, NONE, 0, 0])?;
-    let mut end = Connection::new(FixedBit::Required);
+    let mut end = Connection::<2>::new(FixedBit::Required);
     let sent = end.send(Level::Initial, &mut packet, 17..21);
     equal(&rt, &sent, &Err(SendError::NoKeys));
     let acknowledged = end.acknowledged(Level::Initial, 0, false);
@@ -780,7 +785,7 @@ fn no_keys(rt: HostRuntime) -> Result<(), Fail> {
 
 /// Asserts that an end whose Handshake keys were dropped, and those of 0-RTT packets after them, ignores their packets, forged or
 /// not, and takes no keys for them.
-fn takes_none(rt: &impl Abort, alloc: Global, end: &mut Connection) -> Result<(), Fail> {
+fn takes_none(rt: &impl Abort, alloc: Global, end: &mut Connection<2>) -> Result<(), Fail> {
     end.discard(Level::Handshake);
     for arrival in [First(PacketType::Handshake), Forged(PacketType::Handshake)] {
         becomes(rt, end, &mut bytes_of(alloc, arrival)?, &ID, Ok("ignored"));
@@ -856,7 +861,7 @@ fn without_fixed_bit(rt: &impl Abort, alloc: Global, packet_type: PacketType) ->
         (FixedBit::Required, "ignored"),
         (FixedBit::Greased, "received"),
     ] {
-        let mut to = with_secrets(Connection::new(fixed_bit), SERVER, CLIENT)?;
+        let mut to = with_secrets(Connection::<2>::new(fixed_bit), SERVER, CLIENT)?;
         becomes(rt, &mut to, &mut packet, &ID, Ok(wanted));
     }
     Ok(())
@@ -891,7 +896,7 @@ const AFTER_SKIP: [(u64, Result<(), NumberError>); 2] = [
 ];
 
 /// Asserts the outcomes of an end that has no Initial keys and drops its Handshake keys.
-fn skips(rt: &impl Abort, alloc: Global, end: &mut Connection) -> Result<(), Fail> {
+fn skips(rt: &impl Abort, alloc: Global, end: &mut Connection<2>) -> Result<(), Fail> {
     end.discard(Level::Handshake);
     for (level, number, outcome) in &SKIPS {
         equal(rt, &end.skip_to(*level, *number), outcome);
@@ -908,4 +913,37 @@ fn skips(rt: &impl Abort, alloc: Global, end: &mut Connection) -> Result<(), Fai
 #[test]
 fn skipped_numbers(rt: HostRuntime) -> Result<(), Fail> {
     skips(&rt, rt.alloc(), &mut established(SERVER, CLIENT)?)
+}
+
+/// Asserts what becomes of packet 0 after packet 200, and the ranges of the numbers that are then received.
+fn comes_late<const W: usize>(
+    rt: &impl Abort,
+    alloc: Global,
+    end: &mut Connection<W>,
+    wanted: &str,
+    ranges: &[(u64, u64)],
+) -> Result<(), Fail> {
+    let mut peer = established(CLIENT, SERVER)?;
+    let mut late = sent(alloc, &mut peer, PacketType::OneRtt)?;
+    peer.skip_to(Level::OneRtt, 200)?;
+    let mut packet = sent(alloc, &mut peer, PacketType::OneRtt)?;
+    becomes(rt, end, &mut packet, &ID, Ok("received"));
+    becomes(rt, end, &mut late, &ID, Ok(wanted));
+    has_ranges(rt, end.space(Level::OneRtt), ranges);
+    Ok(())
+}
+
+// A packet that comes late is received if the window reaches its number: one of 128 numbers, and one of 256.
+#[test]
+fn windows(rt: HostRuntime) -> Result<(), Fail> {
+    let mut narrow = with_secrets(Connection::<2>::new(FixedBit::Required), SERVER, CLIENT)?;
+    comes_late(&rt, rt.alloc(), &mut narrow, "dropped", &[(200, 201)])?;
+    let mut wide = with_secrets(Connection::<4>::new(FixedBit::Required), SERVER, CLIENT)?;
+    comes_late(
+        &rt,
+        rt.alloc(),
+        &mut wide,
+        "received",
+        &[(200, 201), (0, 1)],
+    )
 }

@@ -1,7 +1,7 @@
 //! Tests of `Receiver`, `Space` and `Failures`: packets of RFC 9001 appendix A, flipped bits, duplicates, key updates and
 //! limits.
 
-use crate::tests::checks::{equal, holds, same};
+use crate::tests::checks::{equal, has_ranges, holds, same};
 use crate::tests::keys::packets;
 use crate::tests::rows::{IV as ROW_IV, Row, rows};
 use aead_ciphers::aead::{AES_128_GCM, quic};
@@ -356,15 +356,6 @@ fn window_of_64_words(rt: HostRuntime) -> Result<(), Fail> {
     }
     has_ranges(&rt, &space, &[(4160, 4161), (4095, 4097), (65, 66)]);
     Ok(())
-}
-
-/// Asserts that these are the ranges of a space, from the highest down.
-fn has_ranges(rt: &impl Abort, space: &Space<64>, wanted: &[(u64, u64)]) {
-    let mut ranges = space.ranges();
-    for (start, end) in wanted {
-        equal(rt, &ranges.next(), &Some(*start..*end));
-    }
-    equal(rt, &ranges.next(), &None);
 }
 
 // An authentic packet with reserved bits set is rejected with that error, and its payload is then decrypted.

@@ -85,7 +85,7 @@ fn refuses_to_receive(rt: &impl Abort, row: &Packet) -> Result<(), Fail> {
 
 /// Asserts that a connection with the keys of version 1 drops the row's packet, and goes on after it.
 fn drops(rt: &impl Abort, row: &Packet) -> Result<(), Fail> {
-    let mut connection = Connection::new(FixedBit::Required);
+    let mut connection = Connection::<2>::new(FixedBit::Required);
     connection.install_receiver(Level::Initial, initial(Version::One, true)?)?;
     let mut datagram = row.protected.clone()?;
     let step = connection.receive(&mut datagram, 0, 0, &CLIENT_ID)?;

@@ -4,10 +4,10 @@ use Rattle.quic_packets.specs.Ends.{Ends}
 use Rattle.quic_packets.proofs.connection.Connection.open_zero_rtt.Goals as goal
 
 pub returns-clause-tried : goal.returns-clause-tried
-returns-clause-tried c = rw (← c.self.view_is, c.in-Some.is) c.open_with.ensures.tried
+returns-clause-tried g c = rw (← c.self.view_is, c.in-Some.is) c.open_with.ensures.tried
 
 pub returns-clause-received : goal.returns-clause-received
-returns-clause-received c =
+returns-clause-received g c =
     let was = c.self.inside in
     let with_one_rtt : Ends → Connection = λ ends. record {
       initial = was.initial;

@@ -1,11 +1,11 @@
-use Rattle.std.proofs.Common.{rules, ◌≡◌, Ok, IsFalse, IsSome, IsTrue, sym}
+use Rattle.std.proofs.Common.{rules, ◌≡◌, Ok, IsFalse, IsSome, sym}
 use Rattle.quic_packets.specs.Connection.{IsOwn, is_discarded, receiver_of}
 use Rattle.quic_packets.specs.Datagram.{packet_of}
 use Rattle.quic_packets.proofs.StepLemmas as lemmas
 use Rattle.quic_packets.proofs.connection.Connection.parts_to_open.Goals as goal
 
 pub returns-then-not-takes-clause-unopened : goal.returns-then-not-takes-clause-unopened
-returns-then-not-takes-clause-unopened c =
+returns-then-not-takes-clause-unopened g c =
     let a = c.args in
     let it = c.in-Ok.ensures in
     let p = c.in-Ok.parts in
@@ -14,7 +14,7 @@ returns-then-not-takes-clause-unopened c =
     lemmas.past_stranger a.self.now a.id_len a.id.now a.datagram.now a.at p parsed it.start it.some it.within no
 
 pub returns-then-not-has_receiver-clause-unopened : goal.returns-then-not-has_receiver-clause-unopened
-returns-then-not-has_receiver-clause-unopened c =
+returns-then-not-has_receiver-clause-unopened g c =
     let a = c.args in
     let it = c.in-Ok.ensures in
     let p = c.in-Ok.parts in
@@ -25,7 +25,7 @@ returns-then-not-has_receiver-clause-unopened c =
     lemmas.past_keyless a.self.now a.id_len a.id.now a.datagram.now a.at p parsed it.start it.some it.within own undropped none
 
 pub returns-clause-to_open : goal.returns-clause-to_open
-returns-clause-to_open c =
+returns-clause-to_open g c =
     let a = c.args in
     let it = c.in-Ok.ensures in
     let parsed : packet_of a.self.now.fixed_bit a.id_len a.datagram.now a.at ≡ Ok c.in-Ok.parts = rw (← c.self.view_is) (sym it.packet) in

@@ -11,7 +11,7 @@ as_sent e error P is =
     (λ err. is.0 (let same : e ≡ error = cc in ap Err same), λ p. (let err = is.1 p in let same : e ≡ error = cc in ap Err same))
 
 pub returns-in_err-number-clause-refused : goal.returns-in_err-number-clause-refused
-returns-in_err-number-clause-refused c =
+returns-in_err-number-clause-refused g c =
     let a = c.args in
     let s = c.in-Some.sender in
     let it = c.in_err-number.ensures in

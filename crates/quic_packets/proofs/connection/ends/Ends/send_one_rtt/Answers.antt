@@ -6,7 +6,7 @@ use Rattle.quic_packets.specs.declared.send_error.SendError.TheVariants.{KeyUsed
 use Rattle.quic_packets.proofs.connection.ends.Ends.send_one_rtt.Goals as goal
 
 pub returns-in_err-sent-clause-used_up : goal.returns-in_err-sent-clause-used_up
-returns-in_err-sent-clause-used_up c =
+returns-in_err-sent-clause-used_up g c =
     let p = err_from_is_err_and c.from_residual.result c.from_residual.ensures.1 in
     rw (p.1, p.2)
     (subst (λ k. IfSome c.args.self.now.sender (λ s. IsErrOf {T = SentPacket} (Err c.in_err-sent.field-0.0) KeyUsedUp
