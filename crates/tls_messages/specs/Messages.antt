@@ -33,6 +33,15 @@ may_come QuicHandshake type = not (type == 24) && not (type == 5)
 may_come QuicClient type = type == 4
 may_come QuicServer type = false
 
+-- A message of this type may be sent in a record after the handshake: NewSessionTicket from a server (section 4.6.1), and with
+-- post-handshake authentication CertificateRequest from a server, and Certificate, CertificateVerify and Finished from a client
+-- (section 4.6.2). A KeyUpdate, after which the keys change (section 4.6.3), is sent by itself; QUIC has no records
+abbrev pub may_send : Stage → ℕ → Bool
+may_send Server type = type == 4
+may_send AuthenticatingServer type = type == 4 || type == 13
+may_send AuthenticatingClient type = type == 11 || type == 15 || type == 20
+may_send stage type = false
+
 -- the header of a message that may come, with a KeyUpdate's body of one byte (section 4.6.3), and no longer than the bound
 pub record IsExpected (stage : Stage) (bound : ℕ) (bytes : List ℕ) : Type 0 where
   pub type : IsTrue (may_come stage (slice_index bytes 0))

@@ -4,8 +4,16 @@ use Rattle.std.specs.Prelude.{IsFalse, IsTrue, slice_index}
 use Rattle.std.specs.Borrow.{Bor}
 use Rattle.tls_messages.specs.Messages.{Joining, IsExpected, IsMessage, ChangesKeys, may_come, message_len, part_of}
 use Rattle.tls_messages.specs.declared.alert.AlertDescription.{AlertDescription}
-use Rattle.tls_messages.specs.declared.alert.AlertDescription.TheVariants.{BadRecordMac, DecodeError, IllegalParameter, InternalError}
-use Rattle.tls_messages.specs.declared.alert.AlertDescription.TheVariants.{RecordOverflow, UnexpectedMessage}
+use Rattle.tls_messages.specs.declared.alert.AlertDescription.TheVariants.{AccessDenied, BadCertificate}
+use Rattle.tls_messages.specs.declared.alert.AlertDescription.TheVariants.{BadCertificateStatusResponse, BadRecordMac}
+use Rattle.tls_messages.specs.declared.alert.AlertDescription.TheVariants.{CertificateExpired, CertificateRequired}
+use Rattle.tls_messages.specs.declared.alert.AlertDescription.TheVariants.{CertificateRevoked, CertificateUnknown, DecodeError}
+use Rattle.tls_messages.specs.declared.alert.AlertDescription.TheVariants.{DecryptError, HandshakeFailure, IllegalParameter}
+use Rattle.tls_messages.specs.declared.alert.AlertDescription.TheVariants.{InappropriateFallback, InsufficientSecurity}
+use Rattle.tls_messages.specs.declared.alert.AlertDescription.TheVariants.{InternalError, MissingExtension, NoApplicationProtocol}
+use Rattle.tls_messages.specs.declared.alert.AlertDescription.TheVariants.{ProtocolVersion, RecordOverflow, UnexpectedMessage}
+use Rattle.tls_messages.specs.declared.alert.AlertDescription.TheVariants.{UnknownCa, UnknownPskIdentity, UnrecognizedName}
+use Rattle.tls_messages.specs.declared.alert.AlertDescription.TheVariants.{UnsupportedCertificate, UnsupportedExtension}
 use Rattle.tls_messages.specs.declared.message_error.MessageError.{MessageError}
 use Rattle.tls_messages.specs.declared.message_error.MessageError.TheVariants.{Closed, DataAfterKeys, Interrupted, KeyUpdateLength}
 use Rattle.tls_messages.specs.declared.message_error.MessageError.TheVariants.{KeyUpdateRequest, TooLong, UnexpectedType}
@@ -21,14 +29,33 @@ alert_of DataAfterKeys = Some UnexpectedMessage
 alert_of Interrupted = Some UnexpectedMessage
 alert_of Closed = None
 
--- the value of a description (section 6)
+-- the value of an error alert (section 6)
 abbrev pub alert_code : AlertDescription → ℕ
 alert_code UnexpectedMessage = 10
 alert_code BadRecordMac = 20
 alert_code RecordOverflow = 22
+alert_code HandshakeFailure = 40
+alert_code BadCertificate = 42
+alert_code UnsupportedCertificate = 43
+alert_code CertificateRevoked = 44
+alert_code CertificateExpired = 45
+alert_code CertificateUnknown = 46
 alert_code IllegalParameter = 47
+alert_code UnknownCa = 48
+alert_code AccessDenied = 49
 alert_code DecodeError = 50
+alert_code DecryptError = 51
+alert_code ProtocolVersion = 70
+alert_code InsufficientSecurity = 71
 alert_code InternalError = 80
+alert_code InappropriateFallback = 86
+alert_code MissingExtension = 109
+alert_code UnsupportedExtension = 110
+alert_code UnrecognizedName = 112
+alert_code BadCertificateStatusResponse = 113
+alert_code UnknownPskIdentity = 115
+alert_code CertificateRequired = 116
+alert_code NoApplicationProtocol = 120
 
 -- the codes of QUIC: PROTOCOL_VIOLATION and CRYPTO_BUFFER_EXCEEDED (RFC 9000 section 20.1), and CRYPTO_ERROR with an alert
 -- (RFC 9001 section 4.8)

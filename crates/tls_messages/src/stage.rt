@@ -1,7 +1,7 @@
 //! The stages of a connection.
 
 ghost use Rattle.std.specs.Prelude.{◌≡◌};
-ghost use Rattle.tls_messages.specs.Messages.{may_come};
+ghost use Rattle.tls_messages.specs.Messages.{may_come, may_send};
 
 use crate::message_type::{
     CERTIFICATE, CERTIFICATE_REQUEST, CERTIFICATE_VERIFY, END_OF_EARLY_DATA, FINISHED, KEY_UPDATE,
@@ -58,6 +58,30 @@ impl Stage {
             }
             Stage::QuicClient => message_type == NEW_SESSION_TICKET,
             Stage::QuicServer => false,
+        }
+    }
+    /// Returns whether the end may send a message of this type in a record after the handshake: a server NewSessionTicket (RFC
+    /// 8446 section 4.6.1) and, if it asks for post-handshake authentication, CertificateRequest, and a client that offered it
+    /// Certificate, CertificateVerify and Finished (section 4.6.2). No KeyUpdate is among them, since the keys change after it
+    /// (section 4.6.3), and there are none at the other stages.
+    pub fn may_send(self, message_type: u8) -> bool
+        ensures { result ≡ may_send self message_type }
+    {
+        match self {
+            Stage::Server => message_type == NEW_SESSION_TICKET,
+            Stage::AuthenticatingServer => {
+                message_type == NEW_SESSION_TICKET || message_type == CERTIFICATE_REQUEST
+            }
+            Stage::AuthenticatingClient => {
+                message_type == CERTIFICATE
+                    || message_type == CERTIFICATE_VERIFY
+                    || message_type == FINISHED
+            }
+            Stage::Handshake
+            | Stage::Client
+            | Stage::QuicHandshake
+            | Stage::QuicClient
+            | Stage::QuicServer => false,
         }
     }
 }
