@@ -1,2 +1,3 @@
 pub mod MessageLemmas
+mod SendingLemmas
 pub mod StreamLemmas

@@ -162,3 +162,14 @@ pub all_used : (stream part rest : List ℕ) → IsPart part → rest ≡ [] →
 all_used stream part rest is none joined =
     let all : stream ≡ part = joined ∙ ap (λ t. part ++ t) none ∙ search rules in
     (is, none, ap messages_of all ∙ (no_message part is).0, ap part_of all ∙ (no_message part is).1)
+
+-- the message at the front of a stream
+pub front : (stream : List ℕ) (n : ℕ) → n ≡ message_len stream → 4 ≤ n → n ≤ length stream
+    → (messages_of stream ≡ take n stream ∷ messages_of (drop n stream)) × (part_of stream ≡ part_of (drop n stream))
+front stream n is there inside =
+    let both : take n stream ++ drop n stream ≡ stream = take-append-drop n stream in
+    let len : length (take n stream) ≡ n = length-take-le n stream inside in
+    let own : message_len (take n stream) ≡ message_len stream = len_of_take n stream there inside in
+    let first = first_message (take n stream) (drop n stream)
+    (record { header = omega (arith, len, there); len = omega (arith, len, is, own) }) in
+    (ap messages_of (sym both) ∙ first.0, ap part_of (sym both) ∙ first.1)

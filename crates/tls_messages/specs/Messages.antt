@@ -1,6 +1,6 @@
 -- Handshake messages (RFC 8446 section 4), and how they are joined from the contents of records (section 5.1).
 use Rattle.std.specs.Prelude.{◌≡◌, ℕ, zero, suc, ◌+◌, ◌*◌, ◌<◌, ◌≤◌, Bool, cond, leb, ◌&&◌, List, [], ◌∷◌, ◌++◌, length, take, drop, slice_index, ◌==◌, ◌||◌, IsTrue}
-use Rattle.std.specs.Prelude.{false, not}
+use Rattle.std.specs.Prelude.{false, not, true}
 use Rattle.std.specs.List.{All, concat}
 use Rattle.tls_messages.specs.declared.stage.Stage.{Stage}
 use Rattle.tls_messages.specs.declared.stage.Stage.TheVariants.{AuthenticatingClient, AuthenticatingServer, Client, Handshake, Server}
@@ -41,6 +41,13 @@ may_send Server type = type == 4
 may_send AuthenticatingServer type = type == 4 || type == 13
 may_send AuthenticatingClient type = type == 11 || type == 15 || type == 20
 may_send stage type = false
+
+-- these messages may be sent in a row. A Finished, which ends its record (section 5.1), is the last
+abbrev pub may_send_all : Stage → List (List ℕ) → Bool
+may_send_all stage [] = true
+may_send_all stage (last ∷ []) = may_send stage (slice_index last 0)
+may_send_all stage (first ∷ next ∷ later) =
+    may_send stage (slice_index first 0) && not (slice_index first 0 == 20) && may_send_all stage (next ∷ later)
 
 -- the header of a message that may come, with a KeyUpdate's body of one byte (section 4.6.3), and no longer than the bound
 pub record IsExpected (stage : Stage) (bound : ℕ) (bytes : List ℕ) : Type 0 where

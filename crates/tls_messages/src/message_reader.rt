@@ -85,6 +85,13 @@ impl<'b> MessageReader<'b> {
         self.stage = stage;
     }
 
+    /// Returns the stage.
+    pub fn stage(&self) -> Stage
+        ensures { result ≡ self.now.stage }
+    {
+        self.stage
+    }
+
     /// Returns whether a message is cut: more of it is to come.
     pub fn is_cut(&self) -> bool
         ensures { IsFalse result ↔ (self.now.part ≡ []) }
@@ -296,8 +303,7 @@ fn expected_len(stage: Stage, start: &[u8]) -> Result<usize, MessageError>
     if !stage.allows(message_type) {
         return Err(MessageError::UnexpectedType(message_type));
     }
-    let len = MESSAGE_HEADER_LEN
-        + (65536 * usize::from(start[1]) + 256 * usize::from(start[2]) + usize::from(start[3]));
+    let len = message_len(start);
     if message_type == KEY_UPDATE && len != KEY_UPDATE_LEN {
         return Err(MessageError::KeyUpdateLength);
     }
@@ -319,4 +325,13 @@ fn fill(buffer: &mut [u8], at: usize, end: usize, content: &mut &[u8]) -> usize
     buffer[at..at + count].copy_from_slice(taken);
     *content = rest;
     count
+}
+
+/// The length of the message that begins with these bytes.
+pub(crate) fn message_len(start: &[u8]) -> usize
+    requires { 4 ≤ length start.now }
+    ensures { result ≡ message_len start.now }
+{
+    MESSAGE_HEADER_LEN
+        + (65536 * usize::from(start[1]) + 256 * usize::from(start[2]) + usize::from(start[3]))
 }

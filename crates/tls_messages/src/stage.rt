@@ -1,8 +1,10 @@
 //! The stages of a connection.
 
-ghost use Rattle.std.specs.Prelude.{◌≡◌};
-ghost use Rattle.tls_messages.specs.Messages.{may_come, may_send};
+ghost use Rattle.std.specs.Prelude.{◌≡◌, ◌↔◌, ◌≤◌, ◌&&◌, ◌||◌, ◌==◌, not, [], length, IfNone, IfSome, IsSome};
+ghost use Rattle.tls_messages.specs.Messages.{may_come, may_send, may_send_all, messages_of, part_of, IsPart, message_len as message_len_of};
 
+use crate::MESSAGE_HEADER_LEN;
+use crate::message_reader::message_len;
 use crate::message_type::{
     CERTIFICATE, CERTIFICATE_REQUEST, CERTIFICATE_VERIFY, END_OF_EARLY_DATA, FINISHED, KEY_UPDATE,
     NEW_SESSION_TICKET,
@@ -84,4 +86,38 @@ impl Stage {
             | Stage::QuicServer => false,
         }
     }
+    /// Returns whether the end may send these messages in a row in records after the handshake, or `None` if they are not whole
+    /// messages. It may if it may send each, and if none follows a Finished, which ends its record (RFC 8446 section 5.1).
+    pub fn may_send_all(self, messages: &[u8]) -> Option<bool>
+        ensures whole { IsSome result ↔ (part_of messages.now ≡ []) }
+        ensures all { IfSome result (λ may_send. may_send ≡ may_send_all self (messages_of messages.now)) }
+    {
+        let mut rest = messages;
+        let mut may_send = true;
+        while !rest.is_empty() {
+            let (message, later) = rest.split_at(whole_len(rest)?);
+            may_send &= self.may_send_next(message[0], later.is_empty());
+            rest = later;
+        }
+        Some(may_send)
+    }
+
+    /// Whether the end may send a message of this type, which is the last of those in a row or not.
+    fn may_send_next(self, message_type: u8, is_last: bool) -> bool
+        ensures { result ≡ (may_send self message_type && (is_last || not (message_type == 20))) }
+    {
+        self.may_send(message_type) && (is_last || message_type != FINISHED)
+    }
+}
+
+/// The length of the whole message that these bytes begin with, if there is one.
+fn whole_len(bytes: &[u8]) -> Option<usize>
+    ensures some { IfSome result (λ n. (n ≡ message_len_of bytes.now) × (4 ≤ n) × (n ≤ length bytes.now)) }
+    ensures none { IfNone result (IsPart bytes.now) }
+{
+    if bytes.len() < MESSAGE_HEADER_LEN {
+        return None;
+    }
+    let len = message_len(bytes);
+    if len <= bytes.len() { Some(len) } else { None }
 }
