@@ -59,9 +59,16 @@ impl KeyUpdateRequest {
 ///
 /// # Examples
 ///
-/// Sends back what is received. From `crates/records_tests/src/tests/sending.rt`:
+/// Sends back what is received, where `read` is what was read of the stream, and nothing at its end. From `crates/records_tests/src/tests/sending.rt`:
 ///
 /// ```
+/// if connection.is_ended() {
+///     return Ok(());
+/// }
+/// if read.is_empty() {
+///     bail!("the stream ends without close_notify");
+/// }
+/// arrived.extend_from_slice(read)?;
 /// let mut received = Received::new(alloc);
 /// match connection.receive(alloc, arrived, &mut received) {
 ///     Ok(taken) => *arrived = arrived[taken..].to_vec(alloc)?,
@@ -72,7 +79,9 @@ impl KeyUpdateRequest {
 ///         return Err(error.into());
 ///     }
 /// }
-/// connection.send(&received.application_data, out)?;
+/// if !received.application_data.is_empty() {
+///     connection.send(&received.application_data, out)?;
+/// }
 /// if connection.is_ended() {
 ///     connection.close(out)?;
 /// }

@@ -1,6 +1,7 @@
 //! Tests of `records::connection`: whole connections, with key updates of both ends, and what an end sends at its limits.
 
 use crate::tests::checks::{equal, holds, same};
+use anyhow::bail;
 use key_derivation::Secret;
 use records::connection::KeyUpdateRequest::{NotRequested, Requested};
 use records::connection::{Connection, KeyUpdateRequest, ReceiveError, Received};
@@ -34,14 +35,22 @@ fn server(buffer: &mut [u8; 64]) -> Connection<'_> {
     )
 }
 
-/// Receives the records that have arrived, sends their data back, and closes after the peer has. Keeps the bytes of a record that
-/// is not whole.
+/// Takes what was read of the stream, or its end if that is nothing. Sends the data of whole records back, keeps the bytes of a
+/// record that is not whole in `arrived`, and closes after the peer has.
 fn echo(
     connection: &mut Connection<'_>,
     alloc: Global,
+    read: &[u8],
     arrived: &mut Vec<u8>,
     out: &mut Vec<u8>,
-) -> Result<(), Fail> {
+) -> anyhow::Result<()> {
+    if connection.is_ended() {
+        return Ok(());
+    }
+    if read.is_empty() {
+        bail!("the stream ends without close_notify");
+    }
+    arrived.extend_from_slice(read)?;
     let mut received = Received::new(alloc);
     match connection.receive(alloc, arrived, &mut received) {
         Ok(taken) => *arrived = arrived[taken..].to_vec(alloc)?,
@@ -52,7 +61,9 @@ fn echo(
             return Err(error.into());
         }
     }
-    connection.send(&received.application_data, out)?;
+    if !received.application_data.is_empty() {
+        connection.send(&received.application_data, out)?;
+    }
     if connection.is_ended() {
         connection.close(out)?;
     }
@@ -87,14 +98,13 @@ fn received(end: &mut Connection<'_>, alloc: Global, bytes: &mut [u8]) -> Result
     Ok(received)
 }
 
-/// What a server that echoes sends back, if the records arrive in two pieces.
+/// What a server that echoes sends back, if the records arrive in pieces, each of one byte if they are short.
 fn echoed(server: &mut Connection<'_>, alloc: Global, records: &[u8]) -> Result<Vec<u8>, Fail> {
-    let (first, second) = records.split_at(records.len() / 2);
     let mut back = Vec::new(alloc);
-    let mut arrived = first.to_vec(alloc)?;
-    echo(server, alloc, &mut arrived, &mut back)?;
-    arrived.extend_from_slice(second)?;
-    echo(server, alloc, &mut arrived, &mut back)?;
+    let mut arrived = Vec::new(alloc);
+    for piece in records.chunks(1.max(records.len() / 100)) {
+        echo(server, alloc, piece, &mut arrived, &mut back)?;
+    }
     Ok(back)
 }
 
@@ -170,9 +180,9 @@ fn ends(
 ) -> Result<(), Fail> {
     let mut out = Vec::new(alloc);
     client.close(&mut out)?;
-    let mut back = Vec::new(alloc);
-    echo(server, alloc, &mut out, &mut back)?;
+    let mut back = echoed(server, alloc, &out)?;
     received(client, alloc, &mut back)?;
+    echo(server, alloc, b"", &mut Vec::new(alloc), &mut back)?;
     holds(rt, client.is_ended() && client.is_closed(), "the client");
     holds(rt, server.is_ended() && server.is_closed(), "the server");
     Ok(())
@@ -188,6 +198,36 @@ fn a_whole_connection(rt: HostRuntime) -> Result<(), Fail> {
         equal(&rt, server.owes_update(), server_owes, "the server owes");
     }
     ends(&rt, rt.alloc(), &mut client, &mut server)
+}
+
+/// Contents, and the lengths of the records that bring each back: 5 bytes of a header, 1 of a type and 16 of a tag beside the
+/// content (RFC 8446 section 5.2).
+const ECHOED: [(&[u8], usize); 3] = [(b"", 0), (b"x", 23), (b"four", 26)];
+
+/// Bytes that dribble in are answered by the records of their data alone.
+#[test]
+fn nothing_is_answered_by_nothing(rt: HostRuntime) -> Result<(), Fail> {
+    let (mut of_client, mut of_server) = ([0; 64], [0; 64]);
+    let (mut client, mut server) = (client(&mut of_client, 1000), server(&mut of_server));
+    for (content, len) in ECHOED {
+        let records = sent(&mut client, rt.alloc(), content)?;
+        let back = echoed(&mut server, rt.alloc(), &records)?;
+        equal(&rt, back.len(), len, "the records sent back");
+    }
+    Ok(())
+}
+
+/// The end of the stream without close_notify is an error.
+#[test]
+fn a_stream_that_is_cut(rt: HostRuntime) -> Result<(), Fail> {
+    let alloc = rt.alloc();
+    let mut buffer = [0; 64];
+    let mut server = server(&mut buffer);
+    let mut out = Vec::new(alloc);
+    let cut = echo(&mut server, alloc, b"", &mut Vec::new(alloc), &mut out);
+    holds(&rt, cut.is_err(), "a cut");
+    holds(&rt, out.is_empty(), "nothing is sent");
+    Ok(())
 }
 
 /// A limit, and which calls succeed of a new end: `send` of one record, `send_key_update` and `close`.
