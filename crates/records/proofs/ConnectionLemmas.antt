@@ -5,12 +5,13 @@ use Rattle.std.proofs.lemmas.List.{take_rest}
 use Rattle.std.specs.Prelude.{is_ok}
 use Rattle.std.specs.List.{concat}
 use Rattle.records.specs.Connection.{Fails, FailsToBring, LeavesRecord, Receiving, Rejects, Step}
-use Rattle.records.specs.Handling.{Handled, Handles, HandlesAll, RejectsData, RejectsMessages, Takes, after_message, is_key_update, one_handled}
+use Rattle.records.specs.Handling.{FailsToHandle, Handled, Handles, HandlesAll, MayHandle, RefusesToHandle, RejectsData, RejectsMessages}
+use Rattle.records.specs.Handling.{Takes, after_message, one_handled}
 use Rattle.records.specs.Keys.{ReaderState}
 use Rattle.records.specs.Steps.{Reads}
 use Rattle.records.specs.Stream.{BeginsProtected, RefusesProtected, Taken}
 use Rattle.records.specs.declared.connection.receive_error.ReceiveError.{ReceiveError}
-use Rattle.records.specs.declared.connection.receive_error.ReceiveError.TheVariants.{Message, OutOfMemory, Record}
+use Rattle.records.specs.declared.connection.receive_error.ReceiveError.TheVariants.{Message, OutOfMemory, Record, TooManyKeyUpdates}
 use Rattle.records.specs.declared.content_type.ContentType.{ContentType}
 use Rattle.records.specs.declared.record_error.RecordError.{RecordError}
 use Rattle.records.specs.declared.content_type.ContentType.TheVariants.{Alert, ApplicationData, Handshake}
@@ -61,26 +62,29 @@ module _ (stage : Stage) (bound : ℕ) (part content left rest message later kep
     taken = taken;
   }
 
-  pub handles_one : kept ≡ [] → (now : Handled) → now ≡ after_message was message → Handles stage bound part content first kept later now
-  handles_one none now same =
+  pub handles_one : MayHandle was message → kept ≡ [] → (now : Handled) → now ≡ after_message was message → Handles stage bound part content first kept later now
+  handles_one may none now same =
       subst (λ h. Handles stage bound part content first kept later h) (sym same)
       (subst (λ k. Handles stage bound part content first k later (after_message was message)) (sym none)
-      (one_handled left rest message later was handles takes))
+      (one_handled left rest message later was handles takes may))
 
-  pub lacks_memory : kept ≡ [] → is_key_update message ≡ false
-      → RejectsMessages stage bound part content first OutOfMemory kept was
-  lacks_memory none handed = (
-    none,
-    record {
-      left = left;
-      rest = rest;
-      message = message;
-      later = later;
-      handles = handles;
-      takes = takes;
-      handed = handed;
-    },
-  )
+  fails_to_handle : (error : ReceiveError) → RefusesToHandle was message error
+      → FailsToHandle stage bound part content first error was
+  fails_to_handle error refused = record {
+    left = left;
+    rest = rest;
+    message = message;
+    later = later;
+    handles = handles;
+    takes = takes;
+    refused = refused;
+  }
+
+  pub rejects_handling : (error : ReceiveError) → kept ≡ [] → RefusesToHandle was message error
+      → RejectsMessages stage bound part content first error kept was
+  rejects_handling OutOfMemory none refused = (none, fails_to_handle OutOfMemory refused)
+  rejects_handling TooManyKeyUpdates none refused = (none, fails_to_handle TooManyKeyUpdates refused)
+  rejects_handling error none refused = absurd refused
 
 -- no message more
 pub handles_all : (stage : Stage) (bound : ℕ) (part content left rest kept : List ℕ) (first now : Handled) (joining : Joining)

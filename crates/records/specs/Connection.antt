@@ -1,5 +1,5 @@
 -- One end of a TLS 1.3 connection after the handshake (RFC 8446 sections 4.6.3, 5.1, 5.5, 6 and 7.2).
-use Rattle.std.specs.Prelude.{◌≡◌, ◌⊎◌, ℕ, ◌+◌, ◌-◌, ◌<◌, ◌≤◌, Bool, true, false, cond, nat_lt, ◌||◌, IsTrue, List, [], ◌∷◌, ◌++◌}
+use Rattle.std.specs.Prelude.{◌≡◌, ◌⊎◌, ℕ, ◌+◌, ◌-◌, ◌^◌, ◌<◌, ◌≤◌, ◌==◌, length, Bool, true, false, cond, nat_lt, ◌||◌, IsTrue, List, [], ◌∷◌, ◌++◌}
 use Rattle.std.specs.Prelude.{take, drop, map, slice_index, Ok, Err}
 use Rattle.records.specs.Content.{after_content, piece_room, record_count}
 use Rattle.records.specs.Handling.{Handled, HandlesAll, RejectsAlert, RejectsData, RejectsMessages}
@@ -20,11 +20,14 @@ use Rattle.records.specs.declared.record_error.RecordError.TheVariants.{OutOfMem
 use Rattle.tls_messages.specs.Messages.{Joining}
 use Rattle.tls_messages.specs.declared.stage.Stage.{Stage}
 
--- an end: the reader, whether the peer has asked for a KeyUpdate that is not sent yet, and whether nothing more is received; which
+-- an end: the reader, whether the peer has asked for a KeyUpdate that is not sent yet, the number of KeyUpdates received since there
+-- was data, and the most of them that may come in a row, and whether nothing more is received; which
 -- messages may come, the most bytes that one may have, and the part of one that came; the writer, and whether nothing more is sent
 pub record ConnectionState : Type 0 where
   pub reader : ReaderState
   pub owes_update : Bool
+  pub updates : ℕ
+  pub update_bound : ℕ
   pub is_ended : Bool
   pub stage : Stage
   pub bound : ℕ
@@ -37,6 +40,8 @@ abbrev pub new_connection : ReaderState → WriterState → Stage → (bound : �
 new_connection reader writer stage bound = record {
   reader = reader;
   owes_update = false;
+  updates = 0;
+  update_bound = 2 ^ 64 - 1;
   is_ended = false;
   stage = stage;
   bound = bound;
@@ -119,6 +124,8 @@ after_alert was = record was { writer = record was.writer { number = was.writer.
 pub record Receiving : Type 0 where
   pub reader : ReaderState
   pub owes_update : Bool
+  pub updates : ℕ
+  pub update_bound : ℕ
   pub is_ended : Bool
   pub stage : Stage
   pub bound : ℕ
@@ -130,6 +137,8 @@ abbrev pub received_by : ConnectionState → Received → Receiving
 received_by end received = record {
   reader = end.reader;
   owes_update = end.owes_update;
+  updates = end.updates;
+  update_bound = end.update_bound;
   is_ended = end.is_ended;
   stage = end.stage;
   bound = end.bound;
@@ -142,6 +151,8 @@ abbrev pub receiving : Incoming → Joining → Received → Receiving
 receiving incoming joining received = record {
   reader = incoming.reader;
   owes_update = incoming.owes_update;
+  updates = incoming.updates;
+  update_bound = incoming.update_bound;
   is_ended = incoming.is_ended;
   stage = joining.stage;
   bound = joining.bound;
@@ -151,21 +162,42 @@ receiving incoming joining received = record {
 }
 
 abbrev pub handled : Receiving → Handled
-handled was = record { reader = was.reader; owes_update = was.owes_update; messages = was.messages }
+handled was = record {
+  reader = was.reader;
+  owes_update = was.owes_update;
+  updates = was.updates;
+  update_bound = was.update_bound;
+  messages = was.messages;
+}
 
 abbrev pub handling : Incoming → List (List ℕ) → Handled
-handling incoming messages = record { reader = incoming.reader; owes_update = incoming.owes_update; messages = messages }
+handling incoming messages = record {
+  reader = incoming.reader;
+  owes_update = incoming.owes_update;
+  updates = incoming.updates;
+  update_bound = incoming.update_bound;
+  messages = messages;
+}
 
 -- handshake messages have changed this, and nothing else
 abbrev pub with_handled : Receiving → (part : List ℕ) → Handled → Receiving
-with_handled was part now =
-    record was { reader = now.reader; owes_update = now.owes_update; part = part; messages = now.messages }
+with_handled was part now = record was {
+  reader = now.reader;
+  owes_update = now.owes_update;
+  updates = now.updates;
+  part = part;
+  messages = now.messages;
+}
 
--- what a record with this content brings: application data, which is no part of a message, or handshake messages, or an alert that
+-- what a record with this content brings: application data, which is no part of a message, and after which, unless it is empty,
+-- KeyUpdates are counted anew, or handshake messages, or an alert that
 -- ends the data if it is close_notify, 0, and nothing if it is user_canceled, 90 (sections 5.1, 6 and 6.1)
 abbrev pub Brings : ContentType → (content : List ℕ) → Receiving → Receiving → Type 0
 Brings ApplicationData content was now =
-    (was.part ≡ []) × (now ≡ record was { application_data = was.application_data ++ content })
+    (was.part ≡ []) × (now ≡ record was {
+      application_data = was.application_data ++ content;
+      updates = cond (length content == 0) was.updates 0;
+    })
 Brings Handshake content was now = HandlesAll was.stage was.bound was.part content (handled was) now.part (handled now)
     × (now ≡ with_handled was now.part (handled now))
 Brings Alert content was now = (was.part ≡ []) × (now ≡ record was { is_ended = now.is_ended })

@@ -106,6 +106,8 @@ impl<'b> Model for Connection<'b> {
     ghost view = { λ c. record {
       reader = c.incoming.reader;
       owes_update = c.incoming.owes_update;
+      updates = c.incoming.updates;
+      update_bound = c.incoming.update_bound;
       is_ended = c.incoming.is_ended;
       stage = c.messages.stage;
       bound = c.messages.bound;
@@ -135,12 +137,22 @@ impl<'b> Connection<'b> {
             incoming: Incoming {
                 reader,
                 owes_update: false,
+                updates: 0,
+                update_bound: u64::MAX,
                 is_ended: false,
             },
             messages: MessageReader::new(buffer, stage),
             writer,
             is_closed: false,
         }
+    }
+
+    /// Sets how many KeyUpdates may be received in a row, without application data between them that is not empty. Each costs two
+    /// derivations and a key schedule. At first any number may: up to 2^64 - 1, more than a peer can send.
+    pub fn set_update_bound(&mut self, bound: u64)
+        ensures { self.new ≡ record self.old { update_bound = bound } }
+    {
+        self.incoming.update_bound = bound;
     }
 
     /// Returns whether the peer has asked for a KeyUpdate that is not sent yet.
@@ -178,9 +190,10 @@ impl<'b> Connection<'b> {
     ///
     /// Each error but `Ended` ends the direction, with what came before it in `received`: `Record` if a record is rejected,
     /// `Message` if a handshake message is, or a record that is between its parts, `Alert` for an alert other than close_notify
-    /// and user_canceled, and `OutOfMemory` if the capacity of `received.application_data` is too small for a record, or if a
-    /// handshake message that is handed over finds no memory. Bytes that are not authentic are as they came. After close_notify
-    /// or an error, every call fails with `Ended` and changes nothing.
+    /// and user_canceled, `TooManyKeyUpdates` for a KeyUpdate above the bound of `set_update_bound`, and `OutOfMemory` if the
+    /// capacity of `received.application_data` is too small for a record, or if a handshake message that is handed over finds no
+    /// memory. Bytes that are not authentic are as they came. After close_notify or an error, every call fails with `Ended` and
+    /// changes nothing.
     pub fn receive(
         &mut self,
         alloc: Global,

@@ -20,6 +20,9 @@ pub enum ReceiveError {
     /// The peer has sent this alert, which is an error whatever its level (RFC 8446 section 6).
     #[error("the peer has sent alert {0}")]
     Alert(u8),
+    /// More KeyUpdates came in a row than may, without data between them (RFC 8446 section 4.6.3).
+    #[error("too many KeyUpdates came in a row")]
+    TooManyKeyUpdates,
     /// Allocating memory for what was received failed.
     #[error("no memory for what was received")]
     OutOfMemory,
@@ -37,6 +40,7 @@ impl ReceiveError {
         match self {
             ReceiveError::Record(error) => error.alert(),
             ReceiveError::Message(error) => error.alert(),
+            ReceiveError::TooManyKeyUpdates => Some(AlertDescription::UnexpectedMessage),
             ReceiveError::OutOfMemory => Some(AlertDescription::InternalError),
             ReceiveError::Alert(_) | ReceiveError::Ended => None,
         }

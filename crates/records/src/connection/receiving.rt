@@ -1,8 +1,8 @@
 //! What an end receives, one record after another.
 
-ghost use Rattle.std.specs.Prelude.{◌≡◌, ◌≢◌, ◌||◌, ◌==◌, ◌≤◌, ◌<◌, [], length, drop, map, slice_range, slice_index, false, IsFalse, IfOk, IfErr, IfSome, OnOk, OnErr, None, cond, vec_capacity};
+ghost use Rattle.std.specs.Prelude.{◌≡◌, ◌≢◌, ◌+◌, ◌||◌, ◌==◌, ◌≤◌, ◌<◌, [], length, drop, map, slice_range, slice_index, false, IsFalse, IfOk, IfErr, IfSome, OnOk, OnErr, None, cond, vec_capacity};
 ghost use Rattle.records.specs.Connection.{Brings, Fails, FailsToBring, LeavesRecord, Rejects, Step, handling, receiving};
-ghost use Rattle.records.specs.Handling.{HandlesAll, RejectsMessages, after_message, is_key_update};
+ghost use Rattle.records.specs.Handling.{HandlesAll, MayHandle, RefusesToHandle, RejectsMessages, after_message};
 ghost use Rattle.records.specs.Keys.{IsOfSecret, next_reader};
 ghost use Rattle.records.specs.Stream.{BeginsProtected, NeedsMore, RefusesProtected, Taken};
 
@@ -47,29 +47,44 @@ pub(super) struct Incoming {
     pub(super) reader: Reader,
     /// Whether the peer has asked for a KeyUpdate that is not sent yet.
     pub(super) owes_update: bool,
+    /// The number of KeyUpdates since the last application data that was not empty.
+    pub(super) updates: u64,
+    /// The most of them.
+    pub(super) update_bound: u64,
     /// Whether nothing more is received, after close_notify or an error.
     pub(super) is_ended: bool,
 }
 
 impl Incoming {
     /// Continues under the next traffic secret, after a KeyUpdate with this byte (RFC 8446 section 4.6.3).
-    fn update(&mut self, request: u8)
+    fn update(&mut self, request: u8) -> Result<(), ReceiveError>
         requires is_of { IsOfSecret self.old.reader.secret self.old.reader.key }
         requires open { IsFalse self.old.reader.is_closed }
-        ensures reader { self.new.reader ≡ next_reader self.old.reader }
-        ensures owes_update { self.new.owes_update ≡ (self.old.owes_update || request == 1) }
+        ensures accepted { OnOk result (self.old.updates < self.old.update_bound) }
+        ensures too_many { IfErr result (λ error. (error ≡ ReceiveError.TooManyKeyUpdates)
+            × (self.old.update_bound ≤ self.old.updates)) }
+        ensures reader { OnOk result (self.new.reader ≡ next_reader self.old.reader) }
+        ensures owes_update { OnOk result (self.new.owes_update ≡ (self.old.owes_update || request == 1)) }
+        ensures updates { OnOk result (self.new.updates ≡ self.old.updates + 1) }
+        ensures update_bound { self.new.update_bound ≡ self.old.update_bound }
         ensures is_ended { self.new.is_ended ≡ self.old.is_ended }
+        ensures kept { OnErr result (self.new ≡ self.old) }
         ensures is_of { IsOfSecret self.new.reader.secret self.new.reader.key }
         ensures open { IsFalse self.new.reader.is_closed }
     {
+        if self.updates >= self.update_bound {
+            return Err(ReceiveError::TooManyKeyUpdates);
+        }
         let Ok(()) = self.reader.update() else {
             unreachable!();
         };
         self.owes_update = self.owes_update || request == 1;
+        self.updates += 1;
+        Ok(())
     }
 }
 
-/// Follows a KeyUpdate, and appends another message.
+/// Follows a KeyUpdate, unless too many came in a row, and appends another message.
 fn handle_message(
     alloc: Global,
     incoming: &mut Incoming,
@@ -81,17 +96,20 @@ fn handle_message(
     requires len { (0 < length message.now) × (slice_index message.now 0 ≡ 24 → 4 < length message.now) }
     ensures handled { OnOk result (handling incoming.new (map (λ v. v.items) handed.new.items)
         ≡ after_message (handling incoming.old (map (λ v. v.items) handed.old.items)) message.now) }
-    ensures memory { IfErr result (λ error. (error ≡ ReceiveError.OutOfMemory) × IsFalse (is_key_update message.now)) }
+    ensures allowed { OnOk result
+        (MayHandle (handling incoming.old (map (λ v. v.items) handed.old.items)) message.now) }
+    ensures refused { IfErr result
+        (RefusesToHandle (handling incoming.old (map (λ v. v.items) handed.old.items)) message.now) }
     ensures kept { OnErr result ((incoming.new ≡ incoming.old) × (handed.new.items ≡ handed.old.items)) }
+    ensures update_bound { incoming.new.update_bound ≡ incoming.old.update_bound }
     ensures is_ended { incoming.new.is_ended ≡ incoming.old.is_ended }
     ensures is_of { IsOfSecret incoming.new.reader.secret incoming.new.reader.key }
     ensures open { IsFalse incoming.new.reader.is_closed }
 {
     if message[0] == KEY_UPDATE {
-        incoming.update(message[4]);
-    } else {
-        handed.push(message.to_vec(alloc)?)?;
+        return incoming.update(message[4]);
     }
+    handed.push(message.to_vec(alloc)?)?;
     Ok(())
 }
 
@@ -112,6 +130,7 @@ fn receive_messages(
         content.entry.now (handling incoming.old (map (λ v. v.items) handed.old.items)) error messages.new.part
         (handling incoming.new (map (λ v. v.items) handed.new.items))) }
     ensures is_ended { incoming.new.is_ended ≡ incoming.old.is_ended }
+    ensures update_bound { incoming.new.update_bound ≡ incoming.old.update_bound }
     ensures rules { (messages.new.stage ≡ messages.old.stage) × (messages.new.bound ≡ messages.old.bound) }
     ensures open { OnOk result (IsFalse messages.new.is_closed) }
     ensures is_of { IsOfSecret incoming.new.reader.secret incoming.new.reader.key }
@@ -162,6 +181,11 @@ fn receive_content(
         ContentType::ApplicationData => {
             messages.admit_other_record()?;
             received.application_data.extend_from_slice(content)?;
+            incoming.updates = if content.is_empty() {
+                incoming.updates
+            } else {
+                0
+            };
         }
         ContentType::Handshake => {
             receive_messages(alloc, incoming, messages, content, &mut received.messages)?;

@@ -217,6 +217,35 @@ fn nothing_is_answered_by_nothing(rt: HostRuntime) -> Result<(), Fail> {
     Ok(())
 }
 
+/// What a client sends, and whether a server that takes two KeyUpdates in a row receives it.
+const BOUNDED: [(Option<&[u8]>, bool); 8] = [
+    (None, true),
+    (None, true),
+    (Some(b"data"), true),
+    (None, true),
+    (None, true),
+    (Some(b""), true),
+    (None, false),
+    (None, false),
+];
+
+#[test]
+fn key_updates_in_a_row(rt: HostRuntime) -> Result<(), Fail> {
+    let alloc = rt.alloc();
+    let (mut of_client, mut of_server) = ([0; 64], [0; 64]);
+    let (mut client, mut server) = (client(&mut of_client, 1000), server(&mut of_server));
+    server.set_update_bound(2);
+    for (content, is_received) in BOUNDED {
+        let mut records = match content {
+            Some(content) => sent(&mut client, alloc, content)?,
+            None => updated(&mut client, alloc, NotRequested)?,
+        };
+        let found = server.receive(alloc, &mut records, &mut Received::new(alloc));
+        equal(&rt, found.is_ok(), is_received, "received");
+    }
+    Ok(())
+}
+
 /// The end of the stream without close_notify is an error.
 #[test]
 fn a_stream_that_is_cut(rt: HostRuntime) -> Result<(), Fail> {

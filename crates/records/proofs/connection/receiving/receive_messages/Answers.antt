@@ -1,7 +1,7 @@
 use Rattle.std.proofs.Common.{refl, ap, ◌∙◌, Ok, Some, None}
 use Rattle.std.proofs.lemmas.Result.{err_from_is_err_and}
 use Rattle.records.specs.Handling.{none_handled}
-use Rattle.records.proofs.ConnectionLemmas.{handles_all, handles_one, lacks_memory, leaves_ok}
+use Rattle.records.proofs.ConnectionLemmas.{handles_all, handles_one, leaves_ok, rejects_handling}
 use Rattle.records.proofs.connection.receiving.receive_messages.Goals as goal
 
 pub loop-message-init : goal.loop-message-init
@@ -10,6 +10,7 @@ loop-message-init c = record {
   reader_open = c.requires.open.0;
   is_open = c.requires.open.1;
   is_ended = refl;
+  update_bound = refl;
   stage = refl;
   bound = refl;
   handles = none_handled;
@@ -28,10 +29,11 @@ loop-message-preserved c =
       reader_open = handled.open;
       is_open = leaves.1;
       is_ended = handled.is_ended ∙ before.is_ended;
+      update_bound = handled.update_bound ∙ before.update_bound;
       stage = leaves.0.1 ∙ before.stage;
       bound = leaves.0.0 ∙ before.bound;
       handles = handles_one _ _ _ _ _ _ c.in-Some.message.now _ _ _ _ c.loop-message.messages before.stage before.bound before.handles
-          found.0 found.1 found.2 taken.0 taken.1 leaves.2 _ handled.handled;
+          found.0 found.1 found.2 taken.0 taken.1 handled.allowed leaves.2 _ handled.handled;
     }
 
 pub returns-in_err-handle_message-clause-rejected : goal.returns-in_err-handle_message-clause-rejected
@@ -43,9 +45,9 @@ returns-in_err-handle_message-clause-rejected c =
     let found = rw c.in-Some.is at c.in_ok-message.ensures.found in
     let taken = rw c.in-Some.is at c.in_ok-message.ensures.taken in
     let failed = c.in_err-handle_message.ensures in
-    rw (p.1, p.2, failed.memory.0, failed.kept.0, failed.kept.1)
-    (lacks_memory _ _ _ _ _ _ c.in-Some.message.now _ _ _ _ c.loop-message.messages before.stage before.bound before.handles
-    found.0 found.1 found.2 taken.0 taken.1 leaves.2 failed.memory.1)
+    rw (p.1, p.2, failed.kept.0, failed.kept.1)
+    (rejects_handling _ _ _ _ _ _ c.in-Some.message.now _ _ _ _ c.loop-message.messages before.stage before.bound before.handles
+    found.0 found.1 found.2 taken.0 taken.1 _ leaves.2 failed.refused)
 
 pub returns-clause-handled : goal.returns-clause-handled
 returns-clause-handled c =

@@ -11,6 +11,7 @@ invariant-loop-message l = record {
   reader_open : IsFalse l.incoming.reader.is_closed;
   is_open : IsFalse l.messages.is_closed;
   is_ended : l.incoming.is_ended ≡ l.initial.incoming.is_ended;
+  update_bound : l.incoming.update_bound ≡ l.initial.incoming.update_bound;
   stage : l.messages.stage ≡ l.initial.messages.stage;
   bound : l.messages.bound ≡ l.initial.messages.bound;
   handles : Handles l.initial.messages.stage l.initial.messages.bound l.initial.messages.part l.initial.content
