@@ -1,7 +1,7 @@
 //! One end of a TLS 1.3 connection after the handshake: what it receives, over the peer's key updates, and what it sends, over
 //! its own.
 
-ghost use Rattle.std.specs.Prelude.{◌≡◌, ◌+◌, ◌<◌, ◌≤◌, ◌++◌, length, drop, IsTrue, IsFalse, IsErrOf, IsOkUnless, IfOk, IfErr, OnOk, OnErr, cond, vec_len, vec_capacity};
+ghost use Rattle.std.specs.Prelude.{◌≡◌, ◌↔◌, [], ◌+◌, ◌<◌, ◌≤◌, ◌++◌, length, drop, IsTrue, IsFalse, IsErrOf, IsOkUnless, IfOk, IfErr, OnOk, OnErr, cond, vec_len, vec_capacity};
 ghost use Rattle.std.specs.List.{concat};
 ghost use Rattle.records.specs.Alerts.{close_notify, fatal_record};
 ghost use Rattle.records.specs.Connection.{EndsWith, LeavesUnsent, MaySend, MayUpdate, Step};
@@ -46,6 +46,19 @@ impl KeyUpdateRequest {
     {
         [KEY_UPDATE, 0, 0, 1, self as u8]
     }
+}
+
+/// What a connection is made of, and what it leaves undone.
+#[derive(Drop)]
+pub struct Parts {
+    /// The reader, which goes on after the last record that was received.
+    pub reader: Reader,
+    /// The writer, which goes on after the last record that was sent.
+    pub writer: Writer,
+    /// Whether the peer has asked for a KeyUpdate that is not sent yet.
+    pub owes_update: bool,
+    /// Whether a handshake message is cut: more of it is to come.
+    pub is_cut: bool,
 }
 
 /// One end of a TLS 1.3 connection after the handshake.
@@ -144,6 +157,26 @@ impl<'b> Connection<'b> {
             messages: MessageReader::new(buffer, stage),
             writer,
             is_closed: false,
+        }
+    }
+
+    /// Takes the connection apart.
+    ///
+    /// Whether a direction has ended is asked before, by `is_ended` and `is_closed`.
+    pub fn into_parts(self) -> Parts
+        ensures reader { result.reader ≡ self.entry.reader }
+        ensures writer { result.writer ≡ self.entry.writer }
+        ensures secrets { IsOfSecret result.reader.secret result.reader.key
+            × IsOfSecret result.writer.secret result.writer.key }
+        ensures size { 64 ≤ result.writer.key.size_limit }
+        ensures owes_update { result.owes_update ≡ self.entry.owes_update }
+        ensures cut { IsFalse result.is_cut ↔ (self.entry.part ≡ []) }
+    {
+        Parts {
+            is_cut: self.messages.is_cut(),
+            owes_update: self.incoming.owes_update,
+            reader: self.incoming.reader,
+            writer: self.writer,
         }
     }
 

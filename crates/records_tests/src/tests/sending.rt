@@ -246,6 +246,26 @@ fn key_updates_in_a_row(rt: HostRuntime) -> Result<(), Fail> {
     Ok(())
 }
 
+/// An end that is taken apart and made again goes on where it was.
+#[test]
+fn taken_apart(rt: HostRuntime) -> Result<(), Fail> {
+    let alloc = rt.alloc();
+    let (mut of_client, mut of_server) = ([0; 64], [0; 64]);
+    let (mut client, mut server) = (client(&mut of_client, 1000), server(&mut of_server));
+    comes_back(&rt, alloc, &mut client, &mut server, b"before")?;
+    received(
+        &mut client,
+        alloc,
+        &mut updated(&mut server, alloc, Requested)?,
+    )?;
+    let parts = client.into_parts();
+    holds(&rt, parts.owes_update, "a KeyUpdate is owed");
+    holds(&rt, !parts.is_cut, "no message is cut");
+    let mut buffer = [0; 64];
+    let mut client = Connection::new(parts.reader, parts.writer, &mut buffer, Stage::Client);
+    comes_back(&rt, alloc, &mut client, &mut server, b"after")
+}
+
 /// The end of the stream without close_notify is an error.
 #[test]
 fn a_stream_that_is_cut(rt: HostRuntime) -> Result<(), Fail> {
