@@ -1,5 +1,5 @@
 -- One end of a TLS 1.3 connection after the handshake (RFC 8446 sections 4.6.3, 5.1, 5.5, 6 and 7.2).
-use Rattle.std.specs.Prelude.{◌≡◌, ◌⊎◌, ℕ, ◌+◌, ◌-◌, ◌^◌, ◌<◌, ◌≤◌, ◌==◌, length, Bool, true, false, cond, nat_lt, ◌||◌, IsTrue, List, [], ◌∷◌, ◌++◌}
+use Rattle.std.specs.Prelude.{◌≡◌, ◌⊎◌, ℕ, ◌+◌, ◌-◌, ◌^◌, ◌<◌, ◌≤◌, ◌==◌, length, min, Bool, true, false, cond, nat_lt, ◌||◌, IsTrue, List, [], ◌∷◌, ◌++◌}
 use Rattle.std.specs.Prelude.{take, drop, map, slice_index, Ok, Err}
 use Rattle.records.specs.Content.{after_content, piece_room, record_count}
 use Rattle.records.specs.Handling.{Handled, HandlesAll, RejectsAlert, RejectsData, RejectsMessages}
@@ -79,29 +79,35 @@ MayUpdate writer = writer.number + 1 < writer.limit
 abbrev pub content_left : WriterState → ℕ
 content_left writer = content_limit writer - writer.number
 
--- the number of records of a content of n bytes
-abbrev pub content_records : WriterState → (n : ℕ) → ℕ
-content_records writer n = record_count (piece_room writer.key.size_limit 0) n
+-- the number of records of a content of n bytes, each with this padding
+abbrev pub content_records : WriterState → (padding n : ℕ) → ℕ
+content_records writer padding n = record_count (piece_room writer.key.size_limit padding) n
 
--- a KeyUpdate comes before a content of n bytes: one that is owed, or one for a key that has numbers for it
-abbrev pub updates_before : ConnectionState → (n : ℕ) → Bool
-updates_before was n = was.owes_update || nat_lt (content_left was.writer) (content_records was.writer n)
+-- a record has room for this padding and, if there is a content, for a byte of it (section 5.4)
+abbrev pub HasRoom : WriterState → (padding n : ℕ) → Type 0
+HasRoom writer padding n = min n 1 + 1 + padding ≤ writer.key.size_limit
+
+-- a KeyUpdate comes before a content of so many records: one that is owed, or one for a key that has numbers for it
+abbrev pub updates_before : ConnectionState → (records : ℕ) → Bool
+updates_before was records = was.owes_update || nat_lt (content_left was.writer) records
 
 -- the end that sends the content, and the records before it
-abbrev pub before_content : ConnectionState → (n : ℕ) → ConnectionState
-before_content was n = cond (updates_before was n) (key_updated was) was
+abbrev pub before_content : ConnectionState → (records : ℕ) → ConnectionState
+before_content was records = cond (updates_before was records) (key_updated was) was
 
-abbrev pub records_before : ConnectionState → (n : ℕ) → List ℕ
-records_before was n = cond (updates_before was n) (update_record was.writer NotRequested) []
+abbrev pub records_before : ConnectionState → (records : ℕ) → List ℕ
+records_before was records = cond (updates_before was records) (update_record was.writer NotRequested) []
 
--- the end that has sent it
-abbrev pub after_send : ConnectionState → (n : ℕ) → ConnectionState
-after_send was n = let sender = before_content was n in record sender { writer = after_content sender.writer 0 n }
+-- the end that has sent n bytes of content with this padding in each record
+abbrev pub after_send : ConnectionState → (padding n : ℕ) → ConnectionState
+after_send was padding n =
+    let sender = before_content was (content_records was.writer padding n) in
+    record sender { writer = after_content sender.writer padding n }
 
--- a content of n bytes may be sent: a fresh key has numbers for it, and the KeyUpdate before it may be sent, if there is one
-pub record MaySend (was : ConnectionState) (n : ℕ) : Type 0 where
-  pub fits : content_records was.writer n ≤ content_limit was.writer
-  pub update : IsTrue (updates_before was n) → MayUpdate was.writer
+-- a content of so many records may be sent: a fresh key has numbers for it, and the KeyUpdate before it may be sent, if there is one
+pub record MaySend (was : ConnectionState) (records : ℕ) : Type 0 where
+  pub fits : records ≤ content_limit was.writer
+  pub update : IsTrue (updates_before was records) → MayUpdate was.writer
 
 -- the KeyUpdate that is owed comes before another
 abbrev pub after_answer : ConnectionState → ConnectionState

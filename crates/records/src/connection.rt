@@ -1,14 +1,14 @@
 //! One end of a TLS 1.3 connection after the handshake: what it receives, over the peer's key updates, and what it sends, over
 //! its own.
 
-ghost use Rattle.std.specs.Prelude.{◌≡◌, ◌↔◌, [], ◌+◌, ◌<◌, ◌≤◌, ◌++◌, length, drop, IsTrue, IsFalse, IsErrOf, IsOkUnless, IfOk, IfErr, OnOk, OnErr, cond, vec_len, vec_capacity};
+ghost use Rattle.std.specs.Prelude.{◌≡◌, ◌≢◌, ◌↔◌, [], ◌+◌, ◌<◌, ◌≤◌, ◌++◌, length, drop, IsTrue, IsFalse, IsErrOf, IsOkUnless, IfOk, IfErr, OnOk, OnErr, cond, vec_len, vec_capacity};
 ghost use Rattle.std.specs.List.{concat};
 ghost use Rattle.records.specs.Alerts.{close_notify, fatal_record};
-ghost use Rattle.records.specs.Connection.{EndsWith, LeavesUnsent, MaySend, MayUpdate, Step};
-ghost use Rattle.records.specs.Connection.{after_alert, after_answer, after_send, answer_of, before_content, content_left, content_records, key_update, key_updated, new_connection, received_by, records_before, update_record, updates_before};
-ghost use Rattle.records.specs.Content.{records_len, records_of};
+ghost use Rattle.records.specs.Connection.{EndsWith, HasRoom, LeavesUnsent, MaySend, MayUpdate, Step};
+ghost use Rattle.records.specs.Connection.{after_alert, after_answer, after_send, answer_of, before_content, content_left, content_limit, content_records, key_update, key_updated, new_connection, received_by, records_before, update_record, updates_before};
+ghost use Rattle.records.specs.Content.{least_piece, records_len, records_of};
 ghost use Rattle.records.specs.Keys.{IsOfSecret, next_writer};
-ghost use Rattle.records.specs.Record.{record_at};
+ghost use Rattle.records.specs.Record.{IsAllowed, record_at};
 ghost use Rattle.records.specs.Stream.{NeedsMore, Taken};
 
 mod receive_error;
@@ -269,34 +269,80 @@ impl<'b> Connection<'b> {
     /// written. Fails with `OutOfMemory` only if the capacity of `out` is too small; then either nothing is written, or the whole
     /// KeyUpdate alone, which is then no longer owed.
     pub fn send(&mut self, content: &[u8], out: &mut Vec<u8>) -> Result<(), RecordError>
-        ensures accepted { OnOk result (IsFalse self.old.is_closed × MaySend self.old (length content.now)) }
+        ensures accepted { OnOk result (IsFalse self.old.is_closed
+            × MaySend self.old (content_records self.old.writer 0 (length content.now))) }
         ensures closed { IsTrue self.old.is_closed → IsErrOf result RecordError.Ended }
-        ensures used_up { IsFalse self.old.is_closed → ¬ MaySend self.old (length content.now)
+        ensures used_up { IsFalse self.old.is_closed
+            → ¬ MaySend self.old (content_records self.old.writer 0 (length content.now))
             → IsErrOf result RecordError.KeyUsedUp }
-        ensures memory { IsFalse self.old.is_closed → MaySend self.old (length content.now)
+        ensures memory { IsFalse self.old.is_closed
+            → MaySend self.old (content_records self.old.writer 0 (length content.now))
             → IsOkUnless result RecordError.OutOfMemory }
-        ensures room { IsErrOf result RecordError.OutOfMemory
-            → vec_capacity out.old < vec_len out.old + cond (updates_before self.old (length content.now)) 27 0
+        ensures room { IsErrOf result RecordError.OutOfMemory → vec_capacity out.old < vec_len out.old
+            + cond (updates_before self.old (content_records self.old.writer 0 (length content.now))) 27 0
             + records_len self.old.writer.key.size_limit 0 (length content.now) }
-        ensures sent { OnOk result (out.new.items ≡ out.old.items ++ records_before self.old (length content.now)
-            ++ concat (records_of (before_content self.old (length content.now)).writer
+        ensures sent { OnOk result (out.new.items ≡ out.old.items
+            ++ records_before self.old (content_records self.old.writer 0 (length content.now))
+            ++ concat (records_of
+            (before_content self.old (content_records self.old.writer 0 (length content.now))).writer
             ContentType.ApplicationData 0 content.now)) }
-        ensures counted { OnOk result (self.new ≡ after_send self.old (length content.now)) }
-        ensures kept { IfErr result (LeavesUnsent (updates_before self.old (length content.now))
+        ensures counted { OnOk result (self.new ≡ after_send self.old 0 (length content.now)) }
+        ensures kept { IfErr result (LeavesUnsent
+            (updates_before self.old (content_records self.old.writer 0 (length content.now)))
             self.old self.new out.old.items out.new.items) }
     {
         if self.is_closed {
             return Err(RecordError::Ended);
         }
-        let count = content_records(&self.writer, content.len());
-        if count > self.writer.limit().saturating_sub(KEPT) {
-            return Err(RecordError::KeyUsedUp);
+        self.send_content(ContentType::ApplicationData, content, 0, out)
+    }
+
+    /// Appends the records of application data as `send` does, each with `padding` zeros, which hide its length (RFC 8446 section
+    /// 5.4).
+    ///
+    /// Fails as `send` does and, before `KeyUsedUp`, with `ContentTooLong` if the padding leaves no room for one byte of the
+    /// content in a record. Nothing is then written.
+    pub fn send_padded(
+        &mut self,
+        content: &[u8],
+        padding: usize,
+        out: &mut Vec<u8>,
+    ) -> Result<(), RecordError>
+        ensures accepted { OnOk result (IsFalse self.old.is_closed
+            × HasRoom self.old.writer padding (length content.now)
+            × MaySend self.old (content_records self.old.writer padding (length content.now))) }
+        ensures closed { IsTrue self.old.is_closed → IsErrOf result RecordError.Ended }
+        ensures too_long { IsFalse self.old.is_closed
+            → ¬ HasRoom self.old.writer padding (length content.now)
+            → IsErrOf result RecordError.ContentTooLong }
+        ensures used_up { IsFalse self.old.is_closed
+            → HasRoom self.old.writer padding (length content.now)
+            → ¬ MaySend self.old (content_records self.old.writer padding (length content.now))
+            → IsErrOf result RecordError.KeyUsedUp }
+        ensures memory { IsFalse self.old.is_closed
+            → HasRoom self.old.writer padding (length content.now)
+            → MaySend self.old (content_records self.old.writer padding (length content.now))
+            → IsOkUnless result RecordError.OutOfMemory }
+        ensures room { IsErrOf result RecordError.OutOfMemory → vec_capacity out.old < vec_len out.old
+            + cond (updates_before self.old (content_records self.old.writer padding (length content.now))) 27 0
+            + records_len self.old.writer.key.size_limit padding (length content.now) }
+        ensures sent { OnOk result (out.new.items ≡ out.old.items
+            ++ records_before self.old (content_records self.old.writer padding (length content.now))
+            ++ concat (records_of
+            (before_content self.old (content_records self.old.writer padding (length content.now))).writer
+            ContentType.ApplicationData padding content.now)) }
+        ensures counted { OnOk result (self.new ≡ after_send self.old padding (length content.now)) }
+        ensures kept { IfErr result (LeavesUnsent
+            (updates_before self.old (content_records self.old.writer padding (length content.now)))
+            self.old self.new out.old.items out.new.items) }
+    {
+        if self.is_closed {
+            return Err(RecordError::Ended);
         }
-        if self.incoming.owes_update || count > self.remaining() {
-            self.update(KeyUpdateRequest::NotRequested, out)?;
+        if self.writer.size_limit() - 1 - content.len().min(1) < padding {
+            return Err(RecordError::ContentTooLong);
         }
-        self.writer
-            .write_content(ContentType::ApplicationData, content, 0, out)
+        self.send_content(ContentType::ApplicationData, content, padding, out)
     }
 
     /// Appends a KeyUpdate with this request to `out`, under the old key, and continues under the next traffic secret (RFC 8446
@@ -384,6 +430,68 @@ impl<'b> Connection<'b> {
         Ok(())
     }
 
+    /// Appends the records of a content, and before them a KeyUpdate, if one is owed or needed.
+    fn send_content(
+        &mut self,
+        content_type: ContentType,
+        content: &[u8],
+        padding: usize,
+        out: &mut Vec<u8>,
+    ) -> Result<(), RecordError>
+        requires allowed { IsAllowed self.old.writer.key.size_limit content_type
+            (least_piece content_type (length content.now)) padding }
+        requires cut { content_type ≢ ContentType.Alert }
+        ensures accepted { OnOk result
+            (MaySend self.old (content_records self.old.writer padding (length content.now))) }
+        ensures used_up { ¬ MaySend self.old (content_records self.old.writer padding (length content.now))
+            → IsErrOf result RecordError.KeyUsedUp }
+        ensures memory { MaySend self.old (content_records self.old.writer padding (length content.now))
+            → IsOkUnless result RecordError.OutOfMemory }
+        ensures room { IsErrOf result RecordError.OutOfMemory → vec_capacity out.old < vec_len out.old
+            + cond (updates_before self.old (content_records self.old.writer padding (length content.now))) 27 0
+            + records_len self.old.writer.key.size_limit padding (length content.now) }
+        ensures sent { OnOk result (out.new.items ≡ out.old.items
+            ++ records_before self.old (content_records self.old.writer padding (length content.now))
+            ++ concat (records_of
+            (before_content self.old (content_records self.old.writer padding (length content.now))).writer
+            content_type padding content.now)) }
+        ensures counted { OnOk result (self.new ≡ after_send self.old padding (length content.now)) }
+        ensures kept { IfErr result (LeavesUnsent
+            (updates_before self.old (content_records self.old.writer padding (length content.now)))
+            self.old self.new out.old.items out.new.items) }
+    {
+        let count = content_records(&self.writer, content.len(), padding);
+        if count > self.writer.limit().saturating_sub(KEPT) {
+            return Err(RecordError::KeyUsedUp);
+        }
+        self.update_before(count, out)?;
+        self.writer
+            .write_content(content_type, content, padding, out)
+    }
+
+    /// Appends the KeyUpdate that comes before a content of so many records, if there is one.
+    fn update_before(&mut self, records: u64, out: &mut Vec<u8>) -> Result<(), RecordError>
+        requires fits { (0 < records) × (records ≤ content_limit self.old.writer) }
+        ensures accepted { OnOk result (MaySend self.old records) }
+        ensures used_up { ¬ MaySend self.old records → IsErrOf result RecordError.KeyUsedUp }
+        ensures memory { MaySend self.old records → IsOkUnless result RecordError.OutOfMemory }
+        ensures room { IsErrOf result RecordError.OutOfMemory → vec_capacity out.old
+            < vec_len out.old + cond (updates_before self.old records) 27 0 }
+        ensures capacity { vec_capacity out.old ≤ vec_capacity out.new }
+        ensures len { OnOk result (vec_len out.new
+            ≡ vec_len out.old + cond (updates_before self.old records) 27 0) }
+        ensures sent { OnOk result (out.new.items ≡ out.old.items ++ records_before self.old records) }
+        ensures updated { OnOk result (self.new ≡ before_content self.old records) }
+        ensures numbers { OnOk result (self.new.writer.number + records ≤ self.new.writer.limit) }
+        ensures size { self.new.writer.key.size_limit ≡ self.old.writer.key.size_limit }
+        ensures kept { OnErr result ((self.new ≡ self.old) × (out.new.items ≡ out.old.items)) }
+    {
+        if self.incoming.owes_update || records > self.remaining() {
+            return self.update(KeyUpdateRequest::NotRequested, out);
+        }
+        Ok(())
+    }
+
     /// Appends a KeyUpdate, which settles what is owed.
     fn update(&mut self, request: KeyUpdateRequest, out: &mut Vec<u8>) -> Result<(), RecordError>
         ensures accepted { OnOk result (MayUpdate self.old.writer) }
@@ -402,15 +510,17 @@ impl<'b> Connection<'b> {
     }
 }
 
-/// The number of records as which a writer writes `len` bytes of application data.
-fn content_records(writer: &Writer, len: usize) -> u64
-    requires { 64 ≤ writer.now.key.size_limit }
-    ensures { result ≡ content_records writer.now len }
+/// The number of records as which a writer writes `len` bytes of a content that may be cut.
+#[tactic(auto, using(crate::proofs::ContentLemmas::some_records))]
+fn content_records(writer: &Writer, len: usize, padding: usize) -> u64
+    requires { HasRoom writer.now padding len }
+    ensures count { result ≡ content_records writer.now padding len }
+    ensures some { 0 < result }
 {
     if len == 0 {
         1
     } else {
-        len.div_ceil(writer.size_limit() - 1) as u64
+        len.div_ceil(writer.size_limit() - 1 - padding) as u64
     }
 }
 

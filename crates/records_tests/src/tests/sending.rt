@@ -266,6 +266,35 @@ fn taken_apart(rt: HostRuntime) -> Result<(), Fail> {
     comes_back(&rt, alloc, &mut client, &mut server, b"after")
 }
 
+/// A content and its padding, and the length of its records, or none if a record has no room for them: 2^14 + 1 bytes of inner
+/// plaintext (RFC 8446 section 5.4), and 22 bytes more than content and padding.
+const PADDED: [(&[u8], usize, Option<usize>); 6] = [
+    (b"", 0, Some(22)),
+    (b"", 16384, Some(16406)),
+    (b"", 16385, None),
+    (b"four", 100, Some(126)),
+    (b"four", 16383, Some(65624)),
+    (b"four", 16384, None),
+];
+
+#[test]
+fn padded(rt: HostRuntime) -> Result<(), Fail> {
+    let alloc = rt.alloc();
+    let (mut of_client, mut of_server) = ([0; 64], [0; 64]);
+    let (mut client, mut server) = (client(&mut of_client, 1000), server(&mut of_server));
+    for (content, padding, len) in PADDED {
+        let mut records = Vec::new(alloc);
+        let sent = client.send_padded(content, padding, &mut records);
+        equal(&rt, sent.is_ok(), len.is_some(), "sent");
+        equal(&rt, records.len(), len.unwrap_or(0), "the records");
+        if sent.is_ok() {
+            let found = received(&mut server, alloc, &mut records)?;
+            same(&rt, &found.application_data, content, "the content");
+        }
+    }
+    Ok(())
+}
+
 /// The end of the stream without close_notify is an error.
 #[test]
 fn a_stream_that_is_cut(rt: HostRuntime) -> Result<(), Fail> {
