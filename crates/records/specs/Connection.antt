@@ -1,5 +1,5 @@
 -- One end of a TLS 1.3 connection after the handshake (RFC 8446 sections 4.6.3, 5.1, 5.5, 6 and 7.2).
-use Rattle.std.specs.Prelude.{◌≡◌, ◌⊎◌, ℕ, ◌+◌, ◌-◌, ◌^◌, ◌<◌, ◌≤◌, ◌==◌, length, min, Bool, true, false, cond, nat_lt, ◌||◌, IsTrue, List, [], ◌∷◌, ◌++◌}
+use Rattle.std.specs.Prelude.{◌≡◌, ◌≢◌, ◌⊎◌, ℕ, ◌+◌, ◌-◌, ◌^◌, ◌<◌, ◌≤◌, ◌==◌, length, min, Bool, true, false, cond, nat_lt, ◌||◌, IsFalse, IsTrue, List, [], ◌∷◌, ◌++◌}
 use Rattle.std.specs.Prelude.{take, drop, map, slice_index, Ok, Err}
 use Rattle.records.specs.Content.{after_content, piece_room, record_count}
 use Rattle.records.specs.Handling.{Handled, HandlesAll, RejectsAlert, RejectsData, RejectsMessages}
@@ -16,8 +16,8 @@ use Rattle.records.specs.declared.connection.receiving.Received.{Received}
 use Rattle.records.specs.declared.content_type.ContentType.{ContentType}
 use Rattle.records.specs.declared.content_type.ContentType.TheVariants.{Alert, ApplicationData, Handshake}
 use Rattle.records.specs.declared.record_error.RecordError.{RecordError}
-use Rattle.records.specs.declared.record_error.RecordError.TheVariants.{OutOfMemory}
-use Rattle.tls_messages.specs.Messages.{Joining}
+use Rattle.records.specs.declared.record_error.RecordError.TheVariants.{EmptyContent, MessageLength, MessageType, OutOfMemory}
+use Rattle.tls_messages.specs.Messages.{Joining, may_send_all, messages_of, part_of}
 use Rattle.tls_messages.specs.declared.stage.Stage.{Stage}
 
 -- an end: the reader, whether the peer has asked for a KeyUpdate that is not sent yet, the number of KeyUpdates received since there
@@ -108,6 +108,19 @@ after_send was padding n =
 pub record MaySend (was : ConnectionState) (records : ℕ) : Type 0 where
   pub fits : records ≤ content_limit was.writer
   pub update : IsTrue (updates_before was records) → MayUpdate was.writer
+
+-- these bytes are whole handshake messages that may be sent in a row (sections 4.6 and 5.1)
+pub record AreSendable (stage : Stage) (messages : List ℕ) : Type 0 where
+  pub some : messages ≢ []
+  pub whole : part_of messages ≡ []
+  pub all : IsTrue (may_send_all stage (messages_of messages))
+
+-- why they are not
+abbrev pub RefusesToSend : Stage → (messages : List ℕ) → RecordError → Type 0
+RefusesToSend stage messages EmptyContent = messages ≡ []
+RefusesToSend stage messages MessageLength = part_of messages ≢ []
+RefusesToSend stage messages MessageType = (part_of messages ≡ []) × IsFalse (may_send_all stage (messages_of messages))
+RefusesToSend stage messages error = ⊥
 
 -- the KeyUpdate that is owed comes before another
 abbrev pub after_answer : ConnectionState → ConnectionState

@@ -4,7 +4,7 @@
 ghost use Rattle.std.specs.Prelude.{◌≡◌, ◌≢◌, ◌↔◌, [], ◌+◌, ◌<◌, ◌≤◌, ◌++◌, length, drop, IsTrue, IsFalse, IsErrOf, IsOkUnless, IfOk, IfErr, OnOk, OnErr, cond, vec_len, vec_capacity};
 ghost use Rattle.std.specs.List.{concat};
 ghost use Rattle.records.specs.Alerts.{close_notify, fatal_record};
-ghost use Rattle.records.specs.Connection.{EndsWith, HasRoom, LeavesUnsent, MaySend, MayUpdate, Step};
+ghost use Rattle.records.specs.Connection.{AreSendable, EndsWith, HasRoom, LeavesUnsent, MaySend, MayUpdate, RefusesToSend, Step};
 ghost use Rattle.records.specs.Connection.{after_alert, after_answer, after_send, answer_of, before_content, content_left, content_limit, content_records, key_update, key_updated, new_connection, received_by, records_before, update_record, updates_before};
 ghost use Rattle.records.specs.Content.{least_piece, records_len, records_of};
 ghost use Rattle.records.specs.Keys.{IsOfSecret, next_writer};
@@ -343,6 +343,51 @@ impl<'b> Connection<'b> {
             return Err(RecordError::ContentTooLong);
         }
         self.send_content(ContentType::ApplicationData, content, padding, out)
+    }
+
+    /// Appends handshake messages to `out`, each with its type and its length, in records of their own (RFC 8446 section 5.1), and
+    /// before them a KeyUpdate where `send` does: NewSessionTickets of a server (section 4.6.1), and with post-handshake
+    /// authentication a CertificateRequest of a server, or Certificate, CertificateVerify and Finished of a client (section 4.6.2).
+    ///
+    /// Fails with `Ended` after `close` or `abort`, with `EmptyContent` for no message, with `MessageLength` if they are not whole,
+    /// with `MessageType` for one that `Stage::may_send` does not name at the stage of the connection or that follows a Finished,
+    /// and then as `send` does. Nothing is then written, except as `send` says for `OutOfMemory`.
+    pub fn send_handshake(&mut self, messages: &[u8], out: &mut Vec<u8>) -> Result<(), RecordError>
+        ensures accepted { OnOk result (IsFalse self.old.is_closed × AreSendable self.old.stage messages.now
+            × MaySend self.old (content_records self.old.writer 0 (length messages.now))) }
+        ensures closed { IsTrue self.old.is_closed → IsErrOf result RecordError.Ended }
+        ensures refused { IsFalse self.old.is_closed → ¬ AreSendable self.old.stage messages.now
+            → IfErr result (RefusesToSend self.old.stage messages.now) }
+        ensures used_up { IsFalse self.old.is_closed → AreSendable self.old.stage messages.now
+            → ¬ MaySend self.old (content_records self.old.writer 0 (length messages.now))
+            → IsErrOf result RecordError.KeyUsedUp }
+        ensures memory { IsFalse self.old.is_closed → AreSendable self.old.stage messages.now
+            → MaySend self.old (content_records self.old.writer 0 (length messages.now))
+            → IsOkUnless result RecordError.OutOfMemory }
+        ensures room { IsErrOf result RecordError.OutOfMemory → vec_capacity out.old < vec_len out.old
+            + cond (updates_before self.old (content_records self.old.writer 0 (length messages.now))) 27 0
+            + records_len self.old.writer.key.size_limit 0 (length messages.now) }
+        ensures sent { OnOk result (out.new.items ≡ out.old.items
+            ++ records_before self.old (content_records self.old.writer 0 (length messages.now))
+            ++ concat (records_of
+            (before_content self.old (content_records self.old.writer 0 (length messages.now))).writer
+            ContentType.Handshake 0 messages.now)) }
+        ensures counted { OnOk result (self.new ≡ after_send self.old 0 (length messages.now)) }
+        ensures kept { IfErr result (LeavesUnsent
+            (updates_before self.old (content_records self.old.writer 0 (length messages.now)))
+            self.old self.new out.old.items out.new.items) }
+    {
+        if self.is_closed {
+            return Err(RecordError::Ended);
+        }
+        if messages.is_empty() {
+            return Err(RecordError::EmptyContent);
+        }
+        match self.messages.stage().may_send_all(messages) {
+            None => Err(RecordError::MessageLength),
+            Some(false) => Err(RecordError::MessageType),
+            Some(true) => self.send_content(ContentType::Handshake, messages, 0, out),
+        }
     }
 
     /// Appends a KeyUpdate with this request to `out`, under the old key, and continues under the next traffic secret (RFC 8446

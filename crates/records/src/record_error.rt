@@ -62,6 +62,11 @@ pub enum RecordError {
     /// An alert has a number of bytes other than 2 and 0, when writing it or, in an authentic record, reading it (RFC 8446
     /// sections 5.1 and 6).
     AlertLength,
+    /// A handshake message may not be sent at the stage of the connection, or follows a Finished, which ends its record (RFC 8446
+    /// sections 4.6 and 5.1).
+    MessageType,
+    /// The handshake messages to be sent are not whole.
+    MessageLength,
     /// The connection has sent close_notify or a fatal alert, after which it sends nothing (RFC 8446 sections 6.1 and 6.2).
     Ended,
 }
@@ -122,6 +127,8 @@ impl RecordError {
             RecordError::UnexpectedType => "a protected record cannot have this content type",
             RecordError::EmptyContent => "an alert or handshake record has no content",
             RecordError::AlertLength => "an alert does not have 2 bytes",
+            RecordError::MessageType => "a handshake message may not be sent here",
+            RecordError::MessageLength => "the handshake messages are not whole",
             RecordError::Ended => "the connection has sent its last record",
         }
     }

@@ -7,6 +7,7 @@ mod content;
 mod early_data;
 mod examples;
 mod messages;
+mod post_handshake;
 mod receiving;
 mod record_layer;
 mod secrets;

@@ -827,7 +827,7 @@ fn a_writer_refuses_its_own_key(rt: HostRuntime) -> Result<(), Fail> {
 }
 
 /// Each error with its text, and the number of its alert (RFC 8446 section 6).
-const TEXTS: [(RecordError, &str, u8); 24] = [
+const TEXTS: [(RecordError, &str, u8); 26] = [
     (
         RecordError::KeyLength,
         "the key does not have the length of the algorithm's keys",
@@ -934,6 +934,16 @@ const TEXTS: [(RecordError, &str, u8); 24] = [
         RecordError::AlertLength,
         "an alert does not have 2 bytes",
         50,
+    ),
+    (
+        RecordError::MessageType,
+        "a handshake message may not be sent here",
+        0,
+    ),
+    (
+        RecordError::MessageLength,
+        "the handshake messages are not whole",
+        0,
     ),
     (
         RecordError::Ended,
