@@ -62,7 +62,8 @@ module _ (stage : Stage) (bound : ℕ) (part content left rest message later kep
     taken = taken;
   }
 
-  pub handles_one : MayHandle was message → kept ≡ [] → (now : Handled) → now ≡ after_message was message → Handles stage bound part content first kept later now
+  pub handles_one : MayHandle was message → kept ≡ [] → (now : Handled) → now ≡ after_message was message
+      → Handles stage bound part content first kept later now
   handles_one may none now same =
       subst (λ h. Handles stage bound part content first kept later h) (sym same)
       (subst (λ k. Handles stage bound part content first k later (after_message was message)) (sym none)

@@ -20,9 +20,9 @@ use Rattle.records.specs.declared.record_error.RecordError.TheVariants.{EmptyCon
 use Rattle.tls_messages.specs.Messages.{Joining, may_send_all, messages_of, part_of}
 use Rattle.tls_messages.specs.declared.stage.Stage.{Stage}
 
--- an end: the reader, whether the peer has asked for a KeyUpdate that is not sent yet, the number of KeyUpdates received since there
--- was data, and the most of them that may come in a row, and whether nothing more is received; which
--- messages may come, the most bytes that one may have, and the part of one that came; the writer, and whether nothing more is sent
+-- an end: the reader, whether the peer has asked for a KeyUpdate that is not sent yet, the number of KeyUpdates received since
+-- there was data, and the most of them that may come in a row, and whether nothing more is received; which messages may come, the
+-- most bytes that one may have, and the part of one that came; the writer, and whether nothing more is sent
 pub record ConnectionState : Type 0 where
   pub reader : ReaderState
   pub owes_update : Bool
@@ -104,7 +104,8 @@ after_send was padding n =
     let sender = before_content was (content_records was.writer padding n) in
     record sender { writer = after_content sender.writer padding n }
 
--- a content of so many records may be sent: a fresh key has numbers for it, and the KeyUpdate before it may be sent, if there is one
+-- a content of so many records may be sent: a fresh key has numbers for it, and the KeyUpdate before it may be sent, if there is
+-- one
 pub record MaySend (was : ConnectionState) (records : ℕ) : Type 0 where
   pub fits : records ≤ content_limit was.writer
   pub update : IsTrue (updates_before was records) → MayUpdate was.writer

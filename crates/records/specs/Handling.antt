@@ -22,8 +22,8 @@ received_alert TooManyKeyUpdates = Some UnexpectedMessage
 received_alert OutOfMemory = Some InternalError
 received_alert Ended = None
 
--- what a message changes: the keys, whether a KeyUpdate is owed, the number of KeyUpdates since there was data, of which as many as
--- the bound may come, and the messages that are handed over
+-- what a message changes: the keys, whether a KeyUpdate is owed, the number of KeyUpdates since there was data, of which as many
+-- as the bound may come, and the messages that are handed over
 pub record Handled : Type 0 where
   pub reader : ReaderState
   pub owes_update : Bool
@@ -70,7 +70,8 @@ pub record Takes (stage : Stage) (bound : ℕ) (bytes message later : List ℕ) 
 pub data Handles (stage : Stage) (bound : ℕ) (part content : List ℕ) (first : Handled) : (left rest : List ℕ) → Handled → Type 0 where
   none_handled : Handles stage bound part content first part content first
   one_handled : (left rest message later : List ℕ) (was : Handled) → Handles stage bound part content first left rest was
-      → Takes stage bound (left ++ rest) message later → MayHandle was message → Handles stage bound part content first [] later (after_message was message)
+      → Takes stage bound (left ++ rest) message later → MayHandle was message
+      → Handles stage bound part content first [] later (after_message was message)
 
 -- all messages of a record are handled, and this part of the next is left
 pub record HandlesAll (stage : Stage) (bound : ℕ) (part content : List ℕ) (first : Handled) (kept : List ℕ) (now : Handled) : Type 0 where

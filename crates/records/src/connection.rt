@@ -72,7 +72,8 @@ pub struct Parts {
 ///
 /// # Examples
 ///
-/// Sends back what is received, where `read` is what was read of the stream, and nothing at its end. From `crates/records_tests/src/tests/sending.rt`:
+/// Sends back what is received, where `read` is what was read of the stream, and nothing at its end.
+/// From `crates/records_tests/src/tests/sending.rt`:
 ///
 /// ```
 /// if connection.is_ended() {
@@ -345,13 +346,14 @@ impl<'b> Connection<'b> {
         self.send_content(ContentType::ApplicationData, content, padding, out)
     }
 
-    /// Appends handshake messages to `out`, each with its type and its length, in records of their own (RFC 8446 section 5.1), and
-    /// before them a KeyUpdate where `send` does: NewSessionTickets of a server (section 4.6.1), and with post-handshake
-    /// authentication a CertificateRequest of a server, or Certificate, CertificateVerify and Finished of a client (section 4.6.2).
+    /// Appends handshake messages to `out`, each with its type and its length, in records of their own (RFC 8446 section 5.1),
+    /// and before them a KeyUpdate where `send` does: NewSessionTickets of a server (section 4.6.1), and with post-handshake
+    /// authentication a CertificateRequest of a server, or Certificate, CertificateVerify and Finished of a client (section
+    /// 4.6.2).
     ///
-    /// Fails with `Ended` after `close` or `abort`, with `EmptyContent` for no message, with `MessageLength` if they are not whole,
-    /// with `MessageType` for one that `Stage::may_send` does not name at the stage of the connection or that follows a Finished,
-    /// and then as `send` does. Nothing is then written, except as `send` says for `OutOfMemory`.
+    /// Fails with `Ended` after `close` or `abort`, with `EmptyContent` for no message, with `MessageLength` if they are not
+    /// whole, with `MessageType` for one that `Stage::may_send` does not name at the stage of the connection or that follows a
+    /// Finished, and then as `send` does. Nothing is then written, except as `send` says for `OutOfMemory`.
     pub fn send_handshake(&mut self, messages: &[u8], out: &mut Vec<u8>) -> Result<(), RecordError>
         ensures accepted { OnOk result (IsFalse self.old.is_closed × AreSendable self.old.stage messages.now
             × MaySend self.old (content_records self.old.writer 0 (length messages.now))) }

@@ -53,5 +53,6 @@ ends_sent stage stream messages may none same all =
     (sym same ∙ whole, sym (last ∙ and-true may))
 
 -- a part of a message is no whole one
-pub part_sent : (stream messages : List ℕ) → stream ≢ [] → IsPart stream → part_of stream ≡ part_of messages → part_of messages ≢ []
+pub part_sent : (stream messages : List ℕ) → stream ≢ [] → IsPart stream
+    → part_of stream ≡ part_of messages → part_of messages ≢ []
 part_sent stream messages some is same none = some (sym (no_message stream is).1 ∙ same ∙ none)

@@ -8,7 +8,8 @@ pub returns-in_err-whole_len-clause-whole : goal.returns-in_err-whole_len-clause
 returns-in_err-whole_len-clause-whole c =
     let some : c.loop-rest.rest.now ≢ [] = grind (arith, common_steps) in
     let is : IsPart c.loop-rest.rest.now = search rules in
-    let cut : part_of c.args.messages.now ≢ [] = part_sent c.loop-rest.rest.now c.args.messages.now some is c.loop-rest.invariant.part in
+    let cut : part_of c.args.messages.now ≢ []
+    = part_sent c.loop-rest.rest.now c.args.messages.now some is c.loop-rest.invariant.part in
     search rules
 
 pub loop-rest-preserved : goal.loop-rest-preserved
