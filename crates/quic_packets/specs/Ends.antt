@@ -131,13 +131,14 @@ in_phase (Some s) phase = if differ s.phase phase then Some (updated_by s s.secr
 abbrev pub following : Option Sender → (was now : Bool) → Option Sender
 following sender was now = if differ was now then in_phase sender now else sender
 
--- What a key update of the peer is that brings it to this key phase. If this end's sender is in that phase already, this end has
--- initiated the update, and the peer answers it. Otherwise the peer has initiated it (RFC 9001 sections 6.1 and 6.2).
+-- Which kind of key update it is when the peer begins to send in this key phase. If this end already sends in that phase, this end
+-- initiated the update, and the peer answers it. Otherwise the peer initiated the update (RFC 9001 sections 6.1 and 6.2).
 abbrev pub update_into : Option Sender → (phase : Bool) → PeerUpdate
 update_into None phase = Initiated
 update_into (Some s) phase = if differ s.phase phase then Initiated else Answered
 
--- the key update that the packet shows by which the receiver's phase changes. It is the first packet that the next key opens.
+-- The key update that a packet shows, if it changes the receiver's key phase from `was` to `now`. Such a packet is the first one
+-- that the next key opens.
 abbrev pub peer_update : Option Sender → (was now : Bool) → Option PeerUpdate
 peer_update sender was now = if differ was now then Some (update_into sender now) else None
 

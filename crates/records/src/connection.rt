@@ -352,7 +352,7 @@ impl<'b> Connection<'b> {
     /// 4.6.2).
     ///
     /// Fails with `Ended` after `close` or `abort`, with `EmptyContent` for no message, with `MessageLength` if they are not
-    /// whole, with `MessageType` for one that `Stage::may_send` does not name at the stage of the connection or that follows a
+    /// whole, with `MessageType` for one that `Stage::may_send` does not name at the `Stage` of the connection or that follows a
     /// Finished, and then as `send` does. Nothing is then written, except as `send` says for `OutOfMemory`.
     pub fn send_handshake(&mut self, messages: &[u8], out: &mut Vec<u8>) -> Result<(), RecordError>
         ensures accepted { OnOk result (IsFalse self.old.is_closed × AreSendable self.old.stage messages.now

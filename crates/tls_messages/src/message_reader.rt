@@ -85,7 +85,7 @@ impl<'b> MessageReader<'b> {
         self.stage = stage;
     }
 
-    /// Returns the stage.
+    /// Returns its `Stage`, which decides the messages that it takes.
     pub fn stage(&self) -> Stage
         ensures { result ≡ self.now.stage }
     {
