@@ -6,10 +6,13 @@ pub mod MaskedPacket
 pub mod NumberBytes
 pub mod NumberLemmas
 pub mod NumberedLemmas
+pub mod OutcomeLemmas
 pub mod PacketLemmas
 pub mod PartLemmas
 pub mod PhaseLemmas
+pub mod ReceiveLemmas
 pub mod ReceivingLemmas
+pub mod RefusalLemmas
 pub mod RetryLemmas
 pub mod RoomLemmas
 pub mod RunLemmas

@@ -1,5 +1,5 @@
 -- What a receiver reads of a packet that was sent, and what it gives back.
-use Rattle.std.proofs.Common.{◌≡◌, ℕ, ◌+◌, ◌-◌, ◌*◌, ◌%◌, ◌^◌, ◌<◌, true, Some, List, length, get_or, take, drop, refl, sym, ap, ap₂, subst, ◌∙◌, arith, get_or-take, unwrap_or}
+use Rattle.std.proofs.Common.{◌≡◌, ℕ, ◌+◌, ◌-◌, ◌*◌, ◌%◌, ◌^◌, ◌<◌, true, Some, List, length, get_or, take, drop, refl, sym, ap, ap₂, subst, ◌∙◌, arith, get_or-take, unwrap_or, inl, inr, Ok, Err, IsErrOf, IfErr}
 use Rattle.std.proofs.lemmas.List.{drop-take}
 use Rattle.std.specs.Int.Digits.{number_from_digits}
 use Rattle.std.specs.Prelude.{Contains, IfOk, Result}
@@ -12,10 +12,11 @@ use Rattle.quic_packets.specs.Keys.{PacketKey}
 use Rattle.quic_packets.specs.Laws.{OpensTo}
 use Rattle.quic_packets.specs.Numbers.{InWindow, IsDecoded}
 use Rattle.quic_packets.specs.Packet.{CarriesNumber, HasNumber, IsGenuine, IsNumber, low_bytes}
-use Rattle.quic_packets.specs.Receiving.{IsAuthentic, IsInTurn, Opens, Outcome, Reads, Receiver, has_phase, header_len, key_of, opening_key, reserved_bits}
+use Rattle.quic_packets.specs.Receiving.{IsAuthentic, IsInTurn, Opens, Outcome, Reads, Receiver, has_phase, header_len, key_of, opening_key, reserved_bits, IsAdmitted, ReadRefuses, of_packet}
 use Rattle.quic_packets.specs.Sending.{Sender}
 use Rattle.quic_packets.specs.Space.{IsNew, Space}
 use Rattle.quic_packets.specs.declared.receive_error.ReceiveError.{ReceiveError}
+use Rattle.quic_packets.specs.declared.receive_error.ReceiveError.TheVariants.{Duplicate, KeyUpdate, NoFrames, Refused, ReservedBits, TooLong}
 use Rattle.quic_packets.specs.declared.receiver.Received.{Received}
 use Rattle.quic_packets.proofs.HeaderLemmas.{number_len-le}
 use Rattle.quic_packets.proofs.NumberBytes.{number_low_bytes}
@@ -137,16 +138,45 @@ module _ (sender : Sender) (life : Life) (sent : List Sent) (run : HasSent sende
   has_frames : header_len p.number_at plain + 16 < length plain
   has_frames = omega (arith, was.payload, read.same_header_len, read.same_len)
 
+  admitted : (start : ℕ) → IsNew space p.number → IsAdmitted r space (get_or plain 0 0) (of_packet start p.number_at plain n)
+  admitted start new = record {
+    unreserved = unreserved;
+    new = subst (IsNew space) (sym read.same_number) new;
+    in_turn = in_turn;
+    frames = omega (arith, has_frames);
+  }
+
+  -- what is refused is a duplicate, if its number isn't new
+  is_duplicate : (start : ℕ) (e : ReceiveError) → ReadRefuses r space start p.number_at plain n e → ¬ IsNew space n → e ≡ Duplicate
+  is_duplicate start TooLong (inl why) old = absurd (why read.authentic.fits)
+  is_duplicate start Refused (inl why) old = absurd (why.1 read.authentic)
+  is_duplicate start ReservedBits (inr why) old = absurd (why.1 unreserved)
+  is_duplicate start Duplicate (inr why) old = refl
+  is_duplicate start KeyUpdate (inr why) old = absurd (old why.1.1)
+  is_duplicate start NoFrames (inr why) old = absurd (old why.1.1)
+  is_duplicate start e (inl why) old = absurd why
+  is_duplicate start e (inr why) old = absurd why.1
+
+  duplicate : (start : ℕ) (result : Result Received ReceiveError) (r' : Receiver) (opened : List ℕ)
+      → Outcome r space start p.number_at plain n result r' opened → ¬ IsNew space n → IsErrOf result Duplicate
+  duplicate start (Ok packet) r' opened outcome old = absurd (old (outcome.accepted.0 refl).1.new)
+  duplicate start (Err e) r' opened outcome old = ap Err (is_duplicate start e outcome.refused old)
+
+  was_duplicate : (start : ℕ) → ReadRefuses r space start p.number_at plain n Duplicate → ¬ IsNew space n
+  was_duplicate start (inl why) = absurd why
+  was_duplicate start (inr why) = why.1.1
+
   pub gives_back : (result : Result Received ReceiveError) (r' : Receiver) (opened : List ℕ) (start : ℕ)
       → Outcome r space start p.number_at plain n result r' opened → GivesBack space start p result opened
   gives_back result r' opened start outcome = record {
     accepted = (
-      λ ok. subst (IsNew space) read.same_number (outcome.accepted.0 ok).2,
-      λ new. outcome.accepted.1 (read.authentic, unreserved, subst (IsNew space) (sym read.same_number) new, in_turn, has_frames),
+      λ ok. subst (IsNew space) read.same_number (outcome.accepted.0 ok).1.new,
+      λ new. outcome.accepted.1 (read.authentic, admitted start new),
     );
     duplicate = (
-      λ err new. (outcome.duplicate.0 err).2 (subst (IsNew space) (sym read.same_number) new),
-      λ old. outcome.duplicate.1 (read.authentic, unreserved, λ new. old (subst (IsNew space) read.same_number new)),
+      λ err new. was_duplicate start (subst (λ x. IfErr x (ReadRefuses r space start p.number_at plain n)) err outcome.refused)
+          (subst (IsNew space) (sym read.same_number) new),
+      λ old. duplicate start result r' opened outcome (λ new. old (subst (IsNew space) read.same_number new)),
     );
     returns =
         subst (λ v. IfOk result (λ received. received ≡ v))

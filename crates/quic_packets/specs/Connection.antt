@@ -1,14 +1,13 @@
 -- One end of a connection: its levels, and what becomes of a packet that it receives (RFC 9000 sections 12.2 and 12.3, RFC 9001
 -- sections 4.9, 5.7 and 6).
-use Rattle.std.specs.Prelude.{◌≡◌, ℕ, ◌+◌, ◌-◌, ◌<◌, ◌≤◌, ◌↔◌, ◌⊎◌, Bool, true, false, IsFalse, IsTrue, if◌then◌else◌, List, length, slice_range, Option, None, Some, IsSome, IfSome, Result, Ok, Err, IsOkAnd, IfOk, IfErr, IsErrOf, OnErr}
-use Rattle.quic_packets.specs.Datagram.{KeepsOutside, bytes_of, next_after, number_in, packet_of}
+use Rattle.std.specs.Prelude.{◌≡◌, ℕ, ◌+◌, ◌-◌, ◌<◌, ◌≤◌, ◌⊎◌, Bool, true, false, IsFalse, if◌then◌else◌, List, length, slice_range, Option, None, Some, IsSome, IfSome, Result, Ok, Err, IfOk, OnErr, is_some, unwrap_or, slice_index}
+use Rattle.quic_packets.specs.Datagram.{next_after, packet_of}
 use Rattle.quic_packets.specs.Ends.{Ends, following, kept_back, peer_update, phase_of, renewed, renews, sent, with_next_key}
+use Rattle.quic_packets.specs.Errors.{receive_error_code}
 use Rattle.quic_packets.specs.Failures.{Failures}
-use Rattle.quic_packets.specs.Header.{HasSample}
-use Rattle.quic_packets.specs.Receiving.{Outcome, Reads, Receiver, is_of_opened}
+use Rattle.quic_packets.specs.Receiving.{Receiver, ReceiveOutcome}
 use Rattle.quic_packets.specs.Sending.{Sender}
-use Rattle.quic_packets.specs.Space.{IsNew, Marks, Space}
-use Rattle.quic_packets.specs.Versions.{is_other_version}
+use Rattle.quic_packets.specs.Space.{Space}
 use Rattle.quic_packets.specs.declared.connection.Level.{Level}
 use Rattle.quic_packets.specs.declared.connection.Level.TheVariants.{Initial as InitialLevel, Handshake as HandshakeLevel, OneRtt as OneRttLevel}
 use Rattle.quic_packets.specs.declared.connection.incoming.Incoming.{Incoming}
@@ -20,7 +19,7 @@ use Rattle.quic_packets.specs.declared.datagram.Packet.{Packet}
 use Rattle.quic_packets.specs.declared.datagram.PacketType.{PacketType}
 use Rattle.quic_packets.specs.declared.datagram.PacketType.TheVariants.{Initial, ZeroRtt, Handshake, OneRtt}
 use Rattle.quic_packets.specs.declared.receive_error.ReceiveError.{ReceiveError}
-use Rattle.quic_packets.specs.declared.receive_error.ReceiveError.TheVariants.{NoSample, OtherVersion, Refused, TooManyFailures}
+use Rattle.quic_packets.specs.declared.receive_error.ReceiveError.TheVariants.{TooManyFailures}
 use Rattle.quic_packets.specs.declared.fixed_bit.FixedBit.{FixedBit}
 use Rattle.quic_packets.specs.declared.receiver.Received.{Received}
 
@@ -173,74 +172,56 @@ pub record IsUnopened (c : Connection) (id_len : ℕ) (id datagram : List ℕ) (
 
 -- The result.
 
--- this became of the packet
-abbrev pub IsGiven : Result Step ReceiveError → Incoming → Type 0
-IsGiven result incoming = IsOkAnd result (λ step. step.incoming ≡ incoming)
-
 -- the type of a packet that is returned, and what was received
 abbrev pub packet_in : Incoming → Option (PacketType × Received)
 packet_in (PacketOf packet_type received update) = Some (packet_type, received)
 packet_in _ = None
 
--- the key update of the peer that is returned with it
-abbrev pub update_in : Incoming → Option PeerUpdate
-update_in (PacketOf packet_type received update) = update
-update_in _ = None
-
-abbrev pub update_of : Result Step ReceiveError → Option PeerUpdate
-update_of (Ok step) = update_in step.incoming
-update_of (Err error) = None
-
 -- the packet that is returned fulfils this
 abbrev pub IfPacket : Result Step ReceiveError → (PacketType → Received → Type 0) → Type 0
 IfPacket result P = IfOk result (λ step. IfSome (packet_in step.incoming) (λ p. P p.0 p.1))
 
--- what the receiver returned, with a key update of the peer: after an error, either the packet is dropped and the connection goes
--- on, or it is closed
-abbrev pub incoming_of : (goes_on : Bool) → PacketType → Option PeerUpdate → Result Received ReceiveError
-    → Result Incoming ReceiveError
-incoming_of goes_on packet_type update (Ok received) = Ok (PacketOf packet_type received update)
-incoming_of goes_on packet_type update (Err error) = if goes_on then Ok (Dropped error) else Err error
+-- What is returned of a packet that a receiver has tried, with the key update of the peer that the packet shows. After an error with a
+-- code, the connection is to be closed; after another one, the packet is dropped, and the connection goes on.
+abbrev pub given_of : (next : ℕ) → PacketType → Option PeerUpdate → Result Received ReceiveError → Result Step ReceiveError
+given_of next packet_type update (Ok received) = Ok (record { next = next; incoming = PacketOf packet_type received update })
+given_of next packet_type update (Err error) =
+    if is_some (receive_error_code error) then Err error else Ok (record { next = next; incoming = Dropped error })
 
-abbrev pub opened_as : Incoming → Option (Result Received ReceiveError)
-opened_as (PacketOf packet_type received update) = Some (Ok received)
-opened_as (Dropped error) = Some (Err error)
-opened_as _ = None
+-- A packet was given to the receiver of its type. `opened` is what the receiver returned, which the result shows.
+pub record IsTried (c c' : Connection) (parts : Packet) (r : Receiver) (old new : List ℕ) (result : Result Step ReceiveError)
+    : Type 0 where
+  pub opened : Result Received ReceiveError
+  pub given : result
+      ≡ given_of parts.end parts.packet_type (update_after parts.packet_type c.one_rtt c'.one_rtt.receiver) opened
+  pub outcome : ReceiveOutcome r (space_of c parts.packet_type) c.failures parts old opened
+      (unwrap_or (receiver_of c' parts.packet_type) r) (space_of c' parts.packet_type) c'.failures new
+  pub receiver : IsSome (receiver_of c' parts.packet_type)
+  pub followed : c'.one_rtt.sender ≡ sender_after parts.packet_type c.one_rtt c'.one_rtt.receiver
+  pub others : c' ≡ record (with_sender (with_receiver c parts.packet_type (receiver_of c' parts.packet_type)
+      (space_of c' parts.packet_type)) c'.one_rtt.sender) { failures = c'.failures }
+  pub kept : OnErr opened (c' ≡ record c { failures = c'.failures })
 
-abbrev pub opened_of : Result Step ReceiveError → Option (Result Received ReceiveError)
-opened_of (Ok step) = opened_as step.incoming
-opened_of (Err error) = Some (Err error)
+-- What becomes of the packet at a byte of a datagram: the limit of failures is reached; it is passed over unopened; or it is given to
+-- a receiver. In the first two cases nothing changes.
+pub data StepCase (c c' : Connection) (id_len : ℕ) (id old new : List ℕ) (at : ℕ) (result : Result Step ReceiveError)
+    : Type 0 where
+  at_limit : c.failures.limit ≤ c.failures.count → result ≡ Err TooManyFailures → (c' ≡ c) × (new ≡ old)
+      → StepCase c c' id_len id old new at result
+  unopened : IsReceiving c → (step : Step) → IsUnopened c id_len id old at step → result ≡ Ok step → (c' ≡ c) × (new ≡ old)
+      → StepCase c c' id_len id old new at result
+  tried : (parts : Packet) (r : Receiver) → IsOpening c id_len id old at parts r → IsTried c c' parts r old new result
+      → StepCase c c' id_len id old new at result
 
--- the step past a packet
-abbrev pub step_of : (next : ℕ) → Result Incoming ReceiveError → Result Step ReceiveError
-step_of next (Ok incoming) = Ok (record { next = next; incoming = incoming })
-step_of next (Err error) = Err error
-
--- the packet was opened in place, since it is authentic
-abbrev pub is_opened : Option (Result Received ReceiveError) → Bool
-is_opened None = false
-is_opened (Some (Ok received)) = true
-is_opened (Some (Err error)) = is_of_opened error
-
--- A receiver has tried a packet of a datagram: what it returns, and the receiver, the space, the failures and the datagram after
--- it.
-pub record IsTried (r : Receiver) (s : Space) (f : Failures) (parts : Packet) (old : List ℕ)
-    (opened : Result Received ReceiveError) (r' : Receiver) (s' : Space) (f' : Failures) (new : List ℕ) : Type 0 where
-  pub used_up : IsErrOf opened TooManyFailures ↔ (f.limit ≤ f.count)
-  pub other_version : IsErrOf opened OtherVersion
-      ↔ ((f.count < f.limit) × (parts.end ≤ length old) × IsTrue (is_other_version r.version parts.version))
-  pub no_sample : IsErrOf opened NoSample
-      ↔ ((f.count < f.limit) × (parts.end ≤ length old) × IsFalse (is_other_version r.version parts.version)
-      × (0 < number_in parts) × (parts.end - parts.start < number_in parts + 20))
-  pub outcome : f.count < f.limit → parts.end ≤ length old → IsFalse (is_other_version r.version parts.version)
-      → HasSample (number_in parts) (parts.end - parts.start) → (plain : List ℕ) × (number : ℕ)
-      × Reads r.header s.next (number_in parts) (bytes_of parts old) plain number
-      × Outcome r s parts.start (number_in parts) plain number opened r' (bytes_of parts new)
-  pub payload : IfOk opened (λ p. (parts.start < p.payload.start) × (p.payload.start ≤ p.payload.end)
-      × (p.payload.end + 16 ≡ parts.end) × (parts.end ≤ length old))
-  pub marked : IfOk opened (λ p. IsNew s p.number × Marks s p.number s')
-  pub failed : IsErrOf opened Refused → f' ≡ record f { count = f.count + 1 }
-  pub not_failed : ¬ IsErrOf opened Refused → f' ≡ f
-  pub kept : OnErr opened ((r' ≡ r) × (s' ≡ s))
-  pub bytes_kept : IfErr opened (λ error. is_of_opened error ≡ false → new ≡ old)
-  pub outside : KeepsOutside parts.start parts.end old new
+-- What a call of `receive` leaves: which case it is, and what follows in each case. The next packet begins where `next` says, a payload
+-- lies within the datagram, an error changes nothing of the connection, and no byte outside the packet changes.
+pub record StepOutcome (c c' : Connection) (id_len : ℕ) (id old new : List ℕ) (at : ℕ) (result : Result Step ReceiveError)
+    : Type 0 where
+  pub case : StepCase c c' id_len id old new at result
+  pub next : IfOk result (λ step. step.next ≡ end_of (packet_of c.fixed_bit id_len old at) (length old))
+  pub moves_on : at < length old → IfOk result (λ step. (at < step.next) × (step.next ≤ length old))
+  pub payload : IfPacket result (λ _ r. (at < r.payload.start) × (r.payload.start ≤ r.payload.end)
+      × (r.payload.end + 16 ≤ length old))
+  pub kept : OnErr result (c' ≡ c)
+  pub outside : (i : ℕ) → (i < at) ⊎ (end_of (packet_of c.fixed_bit id_len old at) (length old) ≤ i)
+      → slice_index new i ≡ slice_index old i

@@ -1,23 +1,18 @@
 -- What an end of a connection has of an encryption level: its keys for both directions, and one space of packet numbers (RFC 9000
 -- section 12.3, RFC 9001 sections 4.9, 5.7 and 6).
-use Rattle.std.specs.Prelude.{◌≡◌, ℕ, ◌+◌, ◌-◌, ◌*◌, ◌^◌, ◌<◌, ◌≤◌, ◌↔◌, Bool, true, false, not, ◌&&◌, nat_lt, min, if◌then◌else◌, IsTrue, IsFalse, List, length, slice_index, Option, None, Some, is_some, Result, ⊤, IsOk, IsOkUnless, IsErrOf, OnOk, OnErr}
-use Rattle.aead_ciphers.specs.Gcm.{Fits}
-use Rattle.aead_ciphers.specs.Packet.{PacketFits}
+use Rattle.std.specs.Prelude.{◌≡◌, ℕ, ◌-◌, ◌*◌, ◌^◌, ◌<◌, ◌≤◌, ◌↔◌, Bool, true, false, not, ◌&&◌, nat_lt, min, if◌then◌else◌, IsFalse, List, Option, None, Some, is_some, Result, Err, ⊤, IsOk, IsOkUnless, OnOk, OnErr}
 use Rattle.key_derivation.specs.Quic.{QuicSecretState}
-use Rattle.quic_packets.specs.FixedBit.{lacks_fixed_bit}
-use Rattle.quic_packets.specs.Header.{HasSample}
 use Rattle.quic_packets.specs.Keys.{secret_header_key, secret_key}
 use Rattle.quic_packets.specs.Receiving.{Receiver, with_next}
-use Rattle.quic_packets.specs.Sending.{IsEncodable, IsRoom, IsSealable, Sender, after_derived_update, after_send, header_version, is_retry_or_version_negotiation, new_sender, with_installed_keys}
+use Rattle.quic_packets.specs.Sending.{SendOutcome, Sender, SenderRefuses, after_derived_update, after_send, left, new_sender, with_installed_keys}
 use Rattle.quic_packets.specs.Space.{Space, new_space}
-use Rattle.quic_packets.specs.Versions.{is_other_version}
 use Rattle.quic_packets.specs.declared.connection.ends.SentPacket.{SentPacket}
 use Rattle.quic_packets.specs.declared.connection.incoming.PeerUpdate.{PeerUpdate}
 use Rattle.quic_packets.specs.declared.connection.incoming.PeerUpdate.TheVariants.{Initiated, Answered}
 use Rattle.quic_packets.specs.declared.key_error.KeyError.{KeyError}
 use Rattle.quic_packets.specs.declared.key_error.KeyError.TheVariants.{Discarded}
 use Rattle.quic_packets.specs.declared.send_error.SendError.{SendError}
-use Rattle.quic_packets.specs.declared.send_error.SendError.TheVariants.{EmptyPayload, NoFixedBit, NoProtection, NoSample, NumberAtFirstByte, NumberLength, NumberTooFar, NumbersEnded, OtherVersion, TooLong, TooShort}
+use Rattle.quic_packets.specs.declared.send_error.SendError.TheVariants.{KeyUsedUp, NoKeys}
 use Rattle.quic_packets.specs.declared.fixed_bit.FixedBit.{FixedBit}
 
 -- a sender and a receiver, each of which is there or not, the numbers that were received, and whether the keys were dropped
@@ -144,10 +139,6 @@ peer_update sender was now = if differ was now then Some (update_into sender now
 
 -- Sending.
 
--- how many packets the key may still seal (RFC 9001 section 6.6)
-abbrev pub left : Sender → ℕ
-left s = s.limit - s.sealed
-
 -- fewer than 2^16 packets are left to the key, or fewer than half of a lower limit
 abbrev pub is_due : Option Sender → Bool
 is_due None = false
@@ -173,29 +164,19 @@ renewed e = if renews e then initiated e else e
 abbrev pub with_next_key : Ends → Ends
 with_next_key e = record e { receiver = prepared e.receiver }
 
--- When a packet with this room for its number isn't sent, while its key isn't used up: the packet can't be sealed and protected,
--- no number is left, or the room doesn't fit the number.
-pub record Refuses (s : Sender) (fixed_bit : FixedBit) (start end : ℕ) (packet : List ℕ) (result : Result SentPacket SendError)
-    : Type 0 where
-  pub too_short : IsErrOf result TooShort ↔ (length packet < end + 16)
-  pub too_long : IsErrOf result TooLong ↔ ((end + 16 ≤ length packet) × ¬ Fits end (length packet - 16 - end))
-  pub first_byte : IsErrOf result NumberAtFirstByte ↔ (PacketFits end (length packet) × (start ≡ 0))
-  pub no_sample : IsErrOf result NoSample ↔ (PacketFits end (length packet) × (0 < start) × (length packet < start + 20))
-  pub no_protection : IsErrOf result NoProtection
-      ↔ (PacketFits end (length packet) × HasSample start (length packet) × IsTrue (is_retry_or_version_negotiation s.version packet))
-  pub other_version : IsErrOf result OtherVersion
-      ↔ (PacketFits end (length packet) × HasSample start (length packet) × IsFalse (is_retry_or_version_negotiation s.version packet)
-      × IsTrue (is_other_version s.version (header_version packet)))
-  pub no_fixed_bit : IsErrOf result NoFixedBit
-      ↔ (PacketFits end (length packet) × HasSample start (length packet) × IsFalse (is_retry_or_version_negotiation s.version packet)
-      × IsFalse (is_other_version s.version (header_version packet))
-      × IsTrue (lacks_fixed_bit fixed_bit (header_version packet) (slice_index packet 0)))
-  pub empty : IsErrOf result EmptyPayload
-      ↔ (PacketFits end (length packet) × HasSample start (length packet) × IsFalse (is_retry_or_version_negotiation s.version packet)
-      × IsFalse (is_other_version s.version (header_version packet))
-      × IsFalse (lacks_fixed_bit fixed_bit (header_version packet) (slice_index packet 0)) × (length packet ≡ end + 16))
-  pub ended : IsErrOf result NumbersEnded ↔ (IsSealable s.version fixed_bit start end packet × (s.next ≡ 2 ^ 62))
-  pub too_far : IsErrOf result NumberTooFar
-      ↔ (IsSealable s.version fixed_bit start end packet × (s.next < 2 ^ 62) × ¬ IsEncodable s)
-  pub number_length : IsErrOf result NumberLength
-      ↔ (IsSealable s.version fixed_bit start end packet × (s.next < 2 ^ 62) × IsEncodable s × ¬ IsRoom s.next s.largest start end)
+-- why a packet isn't sent at a level with this sender, if it keeps `kept_back` packets of the key for others
+abbrev pub EndRefuses : (s : Sender) (kept_back : ℕ) (fixed_bit : FixedBit) (start end : ℕ) (packet : List ℕ) → SendError → Type 0
+EndRefuses s kept_back fixed_bit start end packet KeyUsedUp = left s ≤ kept_back
+EndRefuses s kept_back fixed_bit start end packet error =
+    (kept_back < left s) × SenderRefuses s fixed_bit start end packet error
+
+-- What becomes of a packet that is sent at a level, if it keeps `kept_back` packets of the key for others: that of its sender, where
+-- `follows` says whether a key update follows the packet. If the level has no sender, the packet is refused.
+abbrev pub EndOutcome : {State : Type 0} (sender : Option Sender) (kept_back : ℕ) (fixed_bit : FixedBit) (start end : ℕ)
+    (old new : List ℕ) (result : Result SentPacket SendError) (follows : Sender → Bool) (before now : State)
+    (after : Sender → State) → Type 0
+EndOutcome None kept_back fixed_bit start end old new result follows before now after =
+    (result ≡ Err NoKeys) × (new ≡ old) × (now ≡ before)
+EndOutcome (Some s) kept_back fixed_bit start end old new result follows before now after =
+    SendOutcome s kept_back fixed_bit start end (EndRefuses s kept_back fixed_bit start end old) old new result (sent_as s (follows s))
+    before now (after s)

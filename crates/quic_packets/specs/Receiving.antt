@@ -1,19 +1,22 @@
 -- Receiving packets: the keys of two phases (RFC 9001 section 6), and the outcome of a packet.
-use Rattle.std.specs.Prelude.{◌≡◌, ◌≢◌, ℕ, ◌+◌, ◌-◌, ◌<◌, ◌≤◌, ◌==◌, ◌↔◌, if◌then◌else◌, min, max, Bool, true, false, not, nat_lt, List, length, slice_index, slice_range, bit_and, Option, None, Some, IsSome, is_some, unwrap_or, Result, IsOk, IfOk, IsErrOf, OnOk}
+use Rattle.std.specs.Prelude.{◌≡◌, ◌≢◌, ℕ, ◌+◌, ◌-◌, ◌<◌, ◌≤◌, ◌==◌, ◌↔◌, if◌then◌else◌, min, max, Bool, true, false, not, nat_lt, List, length, slice_index, slice_range, bit_and, Option, None, Some, IsSome, is_some, unwrap_or, Result, IsOk, IfOk, OnOk, ◌⊎◌, IsTrue, IsFalse, IfErr, OnErr, Err}
 use Rattle.std.specs.Int.Digits.{number_from_digits}
 use Rattle.aead_ciphers.specs.Counting.{xored_nonce}
 use Rattle.aead_ciphers.specs.HeaderProtection.{HeaderKey}
 use Rattle.aead_ciphers.specs.Packet.{OpenedPacket, PacketFits}
 use Rattle.key_derivation.specs.Quic.{QuicSecretState, next_quic_secret}
 use Rattle.key_derivation.specs.declared.quic.Version.{Version}
-use Rattle.quic_packets.specs.Datagram.{span}
+use Rattle.quic_packets.specs.Datagram.{span, KeepsOutside, bytes_of, number_in}
+use Rattle.quic_packets.specs.Failures.{Failures}
 use Rattle.quic_packets.specs.Header.{HasSample, Unprotected, number_len}
 use Rattle.quic_packets.specs.Keys.{PacketKey, secret_key}
 use Rattle.quic_packets.specs.Numbers.{IsDecoded}
 use Rattle.quic_packets.specs.Packet.{IsGenuine}
-use Rattle.quic_packets.specs.Space.{IsNew, Space}
+use Rattle.quic_packets.specs.Space.{IsNew, Space, Marks}
+use Rattle.quic_packets.specs.Versions.{is_other_version}
+use Rattle.quic_packets.specs.declared.datagram.Packet.{Packet}
 use Rattle.quic_packets.specs.declared.receive_error.ReceiveError.{ReceiveError}
-use Rattle.quic_packets.specs.declared.receive_error.ReceiveError.TheVariants.{Duplicate, KeyUpdate, NoFrames, Refused, ReservedBits, TooLong}
+use Rattle.quic_packets.specs.declared.receive_error.ReceiveError.TheVariants.{Duplicate, KeyUpdate, NoFrames, Refused, ReservedBits, TooLong, PastEnd, OtherVersion, NoNumber, NumberAtFirstByte, NoSample, TooManyFailures}
 use Rattle.quic_packets.specs.declared.receiver.Received.{Received}
 
 -- a receiver: its version; the header key; if it is made of a secret, that of its next packet key or, until this is set, of its
@@ -143,36 +146,78 @@ of_packet start number_at plain number = record {
   phase = has_phase (slice_index plain 0);
 }
 
--- the outcome of opening a packet that is long enough for a sample: its first byte, and its parts
+-- The reasons for which a packet is rejected. Each definition gives the reason for each error, and ⊥ for an error that doesn't come.
+-- No two reasons of a definition hold for one packet.
+
+-- why a receiver doesn't read a packet of a datagram that has `len` bytes
+abbrev pub EarlyRefuses : (r : Receiver) (f : Failures) (parts : Packet) (len : ℕ) → ReceiveError → Type 0
+EarlyRefuses r f parts len TooManyFailures = f.limit ≤ f.count
+EarlyRefuses r f parts len PastEnd = (f.count < f.limit) × (len < parts.end)
+EarlyRefuses r f parts len OtherVersion =
+    (f.count < f.limit) × (parts.end ≤ len) × IsTrue (is_other_version r.version parts.version)
+EarlyRefuses r f parts len NoNumber = (f.count < f.limit) × (parts.end ≤ len)
+    × IsFalse (is_other_version r.version parts.version) × ¬ IsSome parts.number_at
+EarlyRefuses r f parts len NumberAtFirstByte = (f.count < f.limit) × (parts.end ≤ len)
+    × IsFalse (is_other_version r.version parts.version) × IsSome parts.number_at × (number_in parts ≡ 0)
+EarlyRefuses r f parts len NoSample = (f.count < f.limit) × (parts.end ≤ len)
+    × IsFalse (is_other_version r.version parts.version) × (0 < number_in parts)
+    × (parts.end - parts.start < number_in parts + 20)
+EarlyRefuses r f parts len error = ⊥
+
+-- A receiver reads the packet with these parts: the limit of failures isn't reached, and the packet ends within the datagram, has no
+-- other version, and is long enough for a sample.
+pub record IsReadable (r : Receiver) (f : Failures) (parts : Packet) (len : ℕ) : Type 0 where
+  pub receiving : f.count < f.limit
+  pub within : parts.end ≤ len
+  pub of_version : IsFalse (is_other_version r.version parts.version)
+  pub sample : HasSample (number_in parts) (parts.end - parts.start)
+
+-- why a packet that is read isn't opened
+abbrev pub OpenRefuses : (r : Receiver) (number_at : ℕ) (plain : List ℕ) (number : ℕ) → ReceiveError → Type 0
+OpenRefuses r number_at plain number TooLong = ¬ PacketFits (header_len number_at plain) (length plain)
+OpenRefuses r number_at plain number Refused =
+    PacketFits (header_len number_at plain) (length plain) × ¬ IsAuthentic r number_at plain number
+OpenRefuses r number_at plain number error = ⊥
+
+-- why a packet that is opened, with this first byte, isn't received
+abbrev pub AdmitRefuses : (r : Receiver) (s : Space) (first : ℕ) (packet : Received) → ReceiveError → Type 0
+AdmitRefuses r s first packet ReservedBits = reserved_bits first ≢ 0
+AdmitRefuses r s first packet Duplicate = (reserved_bits first ≡ 0) × ¬ IsNew s packet.number
+AdmitRefuses r s first packet KeyUpdate =
+    (reserved_bits first ≡ 0) × IsNew s packet.number × ¬ IsInTurn r first packet.number
+AdmitRefuses r s first packet NoFrames = (reserved_bits first ≡ 0) × IsNew s packet.number × IsInTurn r first packet.number
+    × (packet.payload.end ≤ packet.payload.start)
+AdmitRefuses r s first packet error = ⊥
+
+-- why a packet that is read isn't received
+abbrev pub ReadRefuses : (r : Receiver) (s : Space) (start number_at : ℕ) (plain : List ℕ) (number : ℕ) → ReceiveError → Type 0
+ReadRefuses r s start number_at plain number error = OpenRefuses r number_at plain number error
+    ⊎ (IsAuthentic r number_at plain number
+    × AdmitRefuses r s (slice_index plain 0) (of_packet start number_at plain number) error)
+
+-- A packet that is opened, with this first byte, is received: its reserved bits are 0 (RFC 9000 sections 17.2 and 17.3.1), its number
+-- is new (section 12.3), its key is in turn, and its payload is not empty (section 12.4).
+pub record IsAdmitted (r : Receiver) (s : Space) (first : ℕ) (packet : Received) : Type 0 where
+  pub unreserved : reserved_bits first ≡ 0
+  pub new : IsNew s packet.number
+  pub in_turn : IsInTurn r first packet.number
+  pub frames : packet.payload.start < packet.payload.end
+
+-- what becomes of a packet that is read, when it is opened: its first byte and its parts, or an error
 pub record Opening (r : Receiver) (start number_at : ℕ) (plain : List ℕ) (number : ℕ) (result : Result (ℕ × Received) ReceiveError)
     (opened : List ℕ) : Type 0 where
-  pub too_long : IsErrOf result TooLong ↔ ¬ PacketFits (header_len number_at plain) (length plain)
-  pub forged : IsErrOf result Refused
-      ↔ (PacketFits (header_len number_at plain) (length plain) × ¬ IsAuthentic r number_at plain number)
   pub accepted : IsOk result ↔ IsAuthentic r number_at plain number
+  pub refused : IfErr result (OpenRefuses r number_at plain number)
   pub opens : OnOk result (Opens r number_at plain number opened)
   pub returns : IfOk result (λ packet. packet ≡ (slice_index plain 0, of_packet start number_at plain number))
 
--- The outcome of a packet that is long enough for a sample, in the order of the checks: it is too long; it is not authentic;
--- or, once it is opened, its reserved bits are set, its number was already received, its key is not in turn, or its payload is
--- empty.
+-- What becomes of a packet that is read: it is received, or rejected for a reason. An authentic packet is opened in place, even if it
+-- is then rejected.
 pub record Outcome (r : Receiver) (s : Space) (start number_at : ℕ) (plain : List ℕ) (number : ℕ) (result : Result Received ReceiveError)
     (r' : Receiver) (opened : List ℕ) : Type 0 where
-  pub too_long : IsErrOf result TooLong ↔ ¬ PacketFits (header_len number_at plain) (length plain)
-  pub forged : IsErrOf result Refused
-      ↔ (PacketFits (header_len number_at plain) (length plain) × ¬ IsAuthentic r number_at plain number)
-  pub reserved : IsErrOf result ReservedBits ↔ (IsAuthentic r number_at plain number × (reserved_bits (slice_index plain 0) ≢ 0))
-  pub duplicate : IsErrOf result Duplicate
-      ↔ (IsAuthentic r number_at plain number × (reserved_bits (slice_index plain 0) ≡ 0) × ¬ IsNew s number)
-  pub out_of_turn : IsErrOf result KeyUpdate
-      ↔ (IsAuthentic r number_at plain number × (reserved_bits (slice_index plain 0) ≡ 0) × IsNew s number
-      × ¬ IsInTurn r (slice_index plain 0) number)
-  pub no_frames : IsErrOf result NoFrames
-      ↔ (IsAuthentic r number_at plain number × (reserved_bits (slice_index plain 0) ≡ 0) × IsNew s number
-      × IsInTurn r (slice_index plain 0) number × (length plain ≡ header_len number_at plain + 16))
-  pub accepted : IsOk result
-      ↔ (IsAuthentic r number_at plain number × (reserved_bits (slice_index plain 0) ≡ 0) × IsNew s number
-      × IsInTurn r (slice_index plain 0) number × (header_len number_at plain + 16 < length plain))
+  pub accepted : IsOk result ↔ (IsAuthentic r number_at plain number
+      × IsAdmitted r s (slice_index plain 0) (of_packet start number_at plain number))
+  pub refused : IfErr result (ReadRefuses r s start number_at plain number)
   pub opens : IsAuthentic r number_at plain number → Opens r number_at plain number opened
   pub returns : IfOk result (λ packet. packet ≡ of_packet start number_at plain number)
   pub moves_on : OnOk result (r' ≡ received r (slice_index plain 0) number)
@@ -184,3 +229,26 @@ is_of_opened Duplicate = true
 is_of_opened KeyUpdate = true
 is_of_opened NoFrames = true
 is_of_opened _ = false
+
+-- the packets that have failed authentication, with this one
+abbrev pub failures_after : Failures → Result Received ReceiveError → Failures
+failures_after f (Err Refused) = record f { count = f.count + 1 }
+failures_after f result = f
+
+-- What becomes of the packet with these parts of a datagram when it is given to a receiver: the result, and the receiver, the space
+-- of numbers, the failures and the datagram after the call. `refused` and `readable` say whether the packet was read, and `read` what
+-- follows if it was.
+pub record ReceiveOutcome (r : Receiver) (s : Space) (f : Failures) (parts : Packet) (old : List ℕ)
+    (result : Result Received ReceiveError) (r' : Receiver) (s' : Space) (f' : Failures) (new : List ℕ) : Type 0 where
+  pub readable : OnOk result (IsReadable r f parts (length old))
+  pub refused : IfErr result (λ error. EarlyRefuses r f parts (length old) error ⊎ IsReadable r f parts (length old))
+  pub read : IsReadable r f parts (length old) → (plain : List ℕ) × (number : ℕ)
+      × Reads r.header s.next (number_in parts) (bytes_of parts old) plain number
+      × Outcome r s parts.start (number_in parts) plain number result r' (bytes_of parts new)
+  pub payload : IfOk result (λ p. (parts.start < p.payload.start) × (p.payload.start ≤ p.payload.end)
+      × (p.payload.end + 16 ≡ parts.end) × (parts.end ≤ length old))
+  pub marked : IfOk result (λ p. IsNew s p.number × Marks s p.number s')
+  pub counted : f' ≡ failures_after f result
+  pub kept : OnErr result ((r' ≡ r) × (s' ≡ s))
+  pub bytes_kept : IfErr result (λ error. is_of_opened error ≡ false → new ≡ old)
+  pub outside : KeepsOutside parts.start parts.end old new

@@ -1,8 +1,9 @@
 -- Sending packets in one space of packet numbers: the state of a sender, the packets that it makes, and its runs (RFC 9000
 -- section 17, RFC 9001 sections 5 and 6).
-use Rattle.std.specs.Prelude.{◌≡◌, ◌≢◌, ℕ, ◌+◌, ◌-◌, ◌^◌, ◌<◌, ◌≤◌, Bool, true, false, not, nat_lt, nat_le, min, max, ◌==◌, ◌&&◌, ◌||◌, if◌then◌else◌, List, [], ◌∷◌, ◌++◌, Option, None, Some, length, take, drop, bit_and, bit_or, slice_index, slice_set}
+use Rattle.std.specs.Prelude.{◌≡◌, ◌≢◌, ℕ, ◌+◌, ◌-◌, ◌^◌, ◌<◌, ◌≤◌, ◌↔◌, ◌⊎◌, Bool, true, false, not, nat_lt, nat_le, min, max, ◌==◌, ◌&&◌, ◌||◌, if◌then◌else◌, IsTrue, IsFalse, List, [], ◌∷◌, ◌++◌, Option, None, Some, Result, IsOk, IfOk, IfErr, OnOk, OnErr, length, take, drop, bit_and, bit_or, slice_index, slice_set}
 use Rattle.aead_ciphers.specs.Algorithm.{key_len}
 use Rattle.aead_ciphers.specs.Counting.{xored_nonce}
+use Rattle.aead_ciphers.specs.Gcm.{Fits}
 use Rattle.aead_ciphers.specs.HeaderProtection.{HeaderKey, key_len as header_key_len}
 use Rattle.aead_ciphers.specs.Packet.{PacketFits, sealed_packet}
 use Rattle.key_derivation.specs.Quic.{QuicSecretState, next_quic_secret}
@@ -18,6 +19,8 @@ use Rattle.quic_packets.specs.Skipped.{forgotten, is_skipped, no_gaps, with_gap}
 use Rattle.quic_packets.specs.Suite.{algorithm, header_algorithm}
 use Rattle.quic_packets.specs.Versions.{bits_of, is_other_version, type_bits}
 use Rattle.quic_packets.specs.declared.fixed_bit.FixedBit.{FixedBit}
+use Rattle.quic_packets.specs.declared.send_error.SendError.{SendError}
+use Rattle.quic_packets.specs.declared.send_error.SendError.TheVariants.{EmptyPayload, KeyUsedUp, NoFixedBit, NoProtection, NoSample, NumberAtFirstByte, NumberLength, NumberTooFar, NumbersEnded, OtherVersion, TooLong, TooShort}
 use Rattle.quic_packets.specs.declared.skipped.Gap.{Gap}
 
 -- a sender: its version; its key and header key, and the secret of the key, if it is made of one; the next number, and the
@@ -191,6 +194,62 @@ after_derived_update s held = let next = next_quic_secret held in after_update s
 abbrev pub with_installed_keys : Sender → Version → PacketKey → HeaderKey → Option QuicSecretState → Sender
 with_installed_keys s version key header_key secret =
     record (new_sender version key header_key secret s.next) { largest = s.largest; skipped = s.skipped; limit = s.limit }
+
+-- The reasons for which a packet is refused. Each definition gives the reason for each error, and ⊥ for an error that doesn't come.
+-- No two reasons hold for one packet.
+
+-- why a packet whose number is written from byte `start` up to `end` can't be sealed and protected in this version
+abbrev pub PacketRefuses : (version : Version) (fixed_bit : FixedBit) (start end : ℕ) (packet : List ℕ) → SendError → Type 0
+PacketRefuses version fixed_bit start end packet TooShort = length packet < end + 16
+PacketRefuses version fixed_bit start end packet TooLong = (end + 16 ≤ length packet) × ¬ Fits end (length packet - 16 - end)
+PacketRefuses version fixed_bit start end packet NumberAtFirstByte = PacketFits end (length packet) × (start ≡ 0)
+PacketRefuses version fixed_bit start end packet NoSample =
+    PacketFits end (length packet) × (0 < start) × (length packet < start + 20)
+PacketRefuses version fixed_bit start end packet NoProtection =
+    PacketFits end (length packet) × HasSample start (length packet) × IsTrue (is_retry_or_version_negotiation version packet)
+PacketRefuses version fixed_bit start end packet OtherVersion =
+    PacketFits end (length packet) × HasSample start (length packet) × IsFalse (is_retry_or_version_negotiation version packet)
+    × IsTrue (is_other_version version (header_version packet))
+PacketRefuses version fixed_bit start end packet NoFixedBit =
+    PacketFits end (length packet) × HasSample start (length packet) × IsFalse (is_retry_or_version_negotiation version packet)
+    × IsFalse (is_other_version version (header_version packet))
+    × IsTrue (lacks_fixed_bit fixed_bit (header_version packet) (slice_index packet 0))
+PacketRefuses version fixed_bit start end packet EmptyPayload =
+    PacketFits end (length packet) × HasSample start (length packet) × IsFalse (is_retry_or_version_negotiation version packet)
+    × IsFalse (is_other_version version (header_version packet))
+    × IsFalse (lacks_fixed_bit fixed_bit (header_version packet) (slice_index packet 0)) × (length packet ≡ end + 16)
+PacketRefuses version fixed_bit start end packet error = ⊥
+
+-- why a sender has no number for a packet, or none that is written from byte `start` up to `end`
+abbrev pub NumberRefuses : (s : Sender) (start end : ℕ) → SendError → Type 0
+NumberRefuses s start end KeyUsedUp = s.limit ≤ s.sealed
+NumberRefuses s start end NumbersEnded = (s.sealed < s.limit) × (s.next ≡ 2 ^ 62)
+NumberRefuses s start end NumberTooFar = IsOpen s × ¬ IsEncodable s
+NumberRefuses s start end NumberLength = IsOpen s × IsEncodable s × ¬ IsRoom s.next s.largest start end
+NumberRefuses s start end error = ⊥
+
+-- why a sender doesn't send a packet whose number is written from byte `start` up to `end`
+abbrev pub SenderRefuses : (s : Sender) (fixed_bit : FixedBit) (start end : ℕ) (packet : List ℕ) → SendError → Type 0
+SenderRefuses s fixed_bit start end packet error = PacketRefuses s.version fixed_bit start end packet error
+    ⊎ (IsSealable s.version fixed_bit start end packet × NumberRefuses s start end error)
+
+-- how many packets the key may still seal (RFC 9001 section 6.6)
+abbrev pub left : Sender → ℕ
+left s = s.limit - s.sealed
+
+-- What becomes of a packet that a caller sends, if it keeps `kept_back` packets of the sender's key for others. The packet is sent,
+-- `returned` is returned, and the caller's state becomes `after`; or it is refused for a reason, and neither the packet nor the
+-- caller's state changes.
+pub record SendOutcome {T State : Type 0} (s : Sender) (kept_back : ℕ) (fixed_bit : FixedBit) (start end : ℕ)
+    (Refuses : SendError → Type 0) (old new : List ℕ) (result : Result T SendError) (returned : T) (before now after : State)
+    : Type 0 where
+  pub accepted : IsOk result
+      ↔ ((kept_back < left s) × IsSealable s.version fixed_bit start end old × IsInTurn s start end)
+  pub refused : IfErr result Refuses
+  pub sent : OnOk result (IsSent s start end old new)
+  pub returns : IfOk result (λ value. value ≡ returned)
+  pub counted : OnOk result (now ≡ after)
+  pub kept : OnErr result ((new ≡ old) × (now ≡ before))
 
 -- The state of a sender after any calls, and the numbers that it sealed under, in one list for each key. A call leaves one of
 -- the states above, or fails and leaves the sender unchanged.

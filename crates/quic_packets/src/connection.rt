@@ -4,18 +4,13 @@
 //! The caller installs the secrets that TLS gives, writes headers and frames, and passes on acknowledgments, the confirmation of
 //! the handshake and its timer.
 
-ghost use Rattle.std.specs.Prelude.{◌≡◌, ℕ, List, ◌+◌, ◌-◌, ◌^◌, ◌<◌, ◌≤◌, ◌↔◌, ◌⊎◌, ◌&&◌, false, true, min, length, slice_index, if◌then◌else◌, Some, None, IsFalse, IsTrue, IsSome, IfSome, IsOk, IfOk, IfErr, IsErrOf, OnOk, OnErr, unwrap_or, is_some};
+ghost use Rattle.std.specs.Prelude.{◌≡◌, ◌-◌, ◌^◌, ◌<◌, ◌≤◌, ◌↔◌, ◌&&◌, false, true, min, length, if◌then◌else◌, Some, None, IsFalse, IsTrue, IsSome, IfSome, IsOk, IfOk, IfErr, IsErrOf, OnOk, OnErr};
 ghost use Rattle.std.specs.Option.{option_copied};
-ghost use Rattle.quic_packets.specs.Connection.{IfPacket, IsGiven, IsOpening, IsOwn, IsPacketAt, IsReceiving, IsToOpen, IsTried, IsUnopened, end_of, ends_of, has_keys, after_sending, kept_at, is_discarded, is_one_rtt, is_opened, opened_of, packet_in, receiver_of, sender_after, space_of, update_after, update_of, updates_after, with_ends, with_receiver, with_sender};
-ghost use Rattle.quic_packets.specs.Datagram.{bytes_of, number_in, packet_of};
-ghost use Rattle.quic_packets.specs.Ends.{Installs, Refuses, after_discard, confirmed, forgotten, initiated, installed, is_confirmed, left, may_update, no_ends, prepared, sent, sent_as};
-ghost use Rattle.quic_packets.specs.Errors.{receive_error_code};
-ghost use Rattle.quic_packets.specs.Header.{HasSample};
+ghost use Rattle.quic_packets.specs.Connection.{IsOwn, IsToOpen, IsUnopened, end_of, ends_of, has_keys, after_sending, kept_at, is_discarded, is_one_rtt, receiver_of, sender_after, space_of, update_after, updates_after, with_ends, with_receiver, with_sender, StepOutcome};
+ghost use Rattle.quic_packets.specs.Ends.{Installs, after_discard, confirmed, forgotten, initiated, installed, is_confirmed, may_update, no_ends, prepared, sent, EndOutcome};
 ghost use Rattle.quic_packets.specs.Keys.{secret_header_key, secret_key};
-ghost use Rattle.quic_packets.specs.Receiving.{Outcome, Reads, new_receiver};
-ghost use Rattle.quic_packets.specs.Sending.{IsInTurn, IsSealable, IsSent, IsUnanswered, after_acknowledgement, after_skip, is_unsent};
-ghost use Rattle.quic_packets.specs.Space.{IsNew, Marks};
-ghost use Rattle.quic_packets.specs.Versions.{is_other_version};
+ghost use Rattle.quic_packets.specs.Receiving.{new_receiver, ReceiveOutcome};
+ghost use Rattle.quic_packets.specs.Sending.{IsUnanswered, after_acknowledgement, after_skip, is_unsent};
 ghost use Rattle.quic_packets.specs.declared.fixed_bit.FixedBit.TheVariants.{Required};
 
 mod ends;
@@ -383,21 +378,9 @@ impl<const W: usize> Connection<W> {
         packet: &mut [u8],
         number: Range<usize>,
     ) -> Result<SentPacket, SendError>
-        ensures no_keys { IsErrOf result SendError.NoKeys ↔ ¬ IsSome (ends_of self.old level).sender }
-        ensures used_up { IfSome (ends_of self.old level).sender (λ s. IsErrOf result SendError.KeyUsedUp
-            ↔ (left s ≤ kept_at self.old level)) }
-        ensures accepted { IfSome (ends_of self.old level).sender (λ s. IsOk result ↔ ((kept_at self.old level < left s)
-            × IsSealable s.version self.old.peer_fixed_bit number.start number.end packet.old
-            × IsInTurn s number.start number.end)) }
-        ensures refused { IfSome (ends_of self.old level).sender (λ s. kept_at self.old level < left s
-            → Refuses s self.old.peer_fixed_bit number.start number.end packet.old result) }
-        ensures sent { IfSome (ends_of self.old level).sender (λ s. OnOk result
-            (IsSent s number.start number.end packet.old packet.new)) }
-        ensures number { IfSome (ends_of self.old level).sender (λ s. IfOk result (λ p. p
-            ≡ sent_as s (updates_after level (ends_of self.old level) s))) }
-        ensures counted { IfSome (ends_of self.old level).sender (λ s. OnOk result
-            (self.new ≡ with_ends self.old level (after_sending level (ends_of self.old level) s))) }
-        ensures kept { OnErr result ((packet.new ≡ packet.old) × (self.new ≡ self.old)) }
+        ensures outcome { EndOutcome (ends_of self.old level).sender (kept_at self.old level) self.old.peer_fixed_bit
+            number.start number.end packet.old packet.new result (updates_after level (ends_of self.old level))
+            self.old self.new (λ s. with_ends self.old level (after_sending level (ends_of self.old level) s)) }
     {
         match level {
             Level::Initial => self.initial.send(packet, number, self.peer_fixed_bit, 1),
@@ -418,19 +401,9 @@ impl<const W: usize> Connection<W> {
         packet: &mut [u8],
         number: Range<usize>,
     ) -> Result<SentPacket, SendError>
-        ensures no_keys { IsErrOf result SendError.NoKeys ↔ ¬ IsSome (ends_of self.old level).sender }
-        ensures used_up { IfSome (ends_of self.old level).sender (λ s. IsErrOf result SendError.KeyUsedUp ↔ (left s ≤ 0)) }
-        ensures accepted { IfSome (ends_of self.old level).sender (λ s. IsOk result ↔ ((0 < left s)
-            × IsSealable s.version self.old.peer_fixed_bit number.start number.end packet.old
-            × IsInTurn s number.start number.end)) }
-        ensures refused { IfSome (ends_of self.old level).sender (λ s. 0 < left s
-            → Refuses s self.old.peer_fixed_bit number.start number.end packet.old result) }
-        ensures sent { IfSome (ends_of self.old level).sender (λ s. OnOk result
-            (IsSent s number.start number.end packet.old packet.new)) }
-        ensures number { IfSome (ends_of self.old level).sender (λ s. IfOk result (λ p. p ≡ sent_as s false)) }
-        ensures counted { IfSome (ends_of self.old level).sender (λ s. OnOk result
-            (self.new ≡ with_ends self.old level (sent (ends_of self.old level) s))) }
-        ensures kept { OnErr result ((packet.new ≡ packet.old) × (self.new ≡ self.old)) }
+        ensures outcome { EndOutcome (ends_of self.old level).sender 0 self.old.peer_fixed_bit number.start number.end
+            packet.old packet.new result (λ s. false) self.old self.new
+            (λ s. with_ends self.old level (sent (ends_of self.old level) s)) }
     {
         match level {
             Level::Initial => self.initial.send(packet, number, self.peer_fixed_bit, 0),
@@ -462,52 +435,7 @@ impl<const W: usize> Connection<W> {
         id_len: usize,
         id: &[u8],
     ) -> Result<Step, ReceiveError>
-        ensures at_limit { IsErrOf result ReceiveError.TooManyFailures ↔ (self.old.failures.limit ≤ self.old.failures.count) }
-        ensures closes { IfErr result (λ error. IsSome (receive_error_code error)) }
-        ensures drops { (error : ReceiveError) → IsGiven result (Incoming.Dropped error) → receive_error_code error ≡ None }
-        ensures next { IfOk result (λ step. step.next
-            ≡ end_of (packet_of self.old.fixed_bit id_len datagram.old at) (length datagram.old)) }
-        ensures moves_on { at < length datagram.old → IfOk result (λ step. (at < step.next) × (step.next ≤ length datagram.old)) }
-        ensures ignored { IsGiven result Incoming.Ignored ↔ (IsReceiving self.old
-            × ((parts : Packet) → ¬ IsPacketAt self.old id_len id.now datagram.old at parts)) }
-        ensures no_keys { (packet_type : PacketType) → IsGiven result (Incoming.NoKeys packet_type) ↔ (IsReceiving self.old
-            × ((parts : Packet) × IsPacketAt self.old id_len id.now datagram.old at parts × (parts.packet_type ≡ packet_type)
-            × ¬ IsSome (receiver_of self.old packet_type))) }
-        ensures other_version { (parts : Packet) → (r : Receiver) → IsOpening self.old id_len id.now datagram.old at parts r
-            → IsGiven result (Incoming.Dropped ReceiveError.OtherVersion) ↔ IsTrue (is_other_version r.version parts.version) }
-        ensures no_sample { (parts : Packet) → (r : Receiver) → IsOpening self.old id_len id.now datagram.old at parts r
-            → IsGiven result (Incoming.Dropped ReceiveError.NoSample) ↔ (IsFalse (is_other_version r.version parts.version)
-            × (0 < number_in parts) × (parts.end - parts.start < number_in parts + 20)) }
-        ensures outcome { (parts : Packet) → (r : Receiver) → IsOpening self.old id_len id.now datagram.old at parts r
-            → IsFalse (is_other_version r.version parts.version)
-            → HasSample (number_in parts) (parts.end - parts.start) → IfSome (opened_of result) (λ opened.
-            (plain : List ℕ) × (number : ℕ) × Reads r.header (space_of self.old parts.packet_type).next (number_in parts)
-            (bytes_of parts datagram.old) plain number
-            × Outcome r (space_of self.old parts.packet_type) parts.start (number_in parts) plain number opened
-            (unwrap_or (receiver_of self.new parts.packet_type) r) (bytes_of parts datagram.new)) }
-        ensures packet_type { (parts : Packet) → IsPacketAt self.old id_len id.now datagram.old at parts
-            → IfPacket result (λ packet_type _. packet_type ≡ parts.packet_type) }
-        ensures payload { IfPacket result (λ _ r. (at < r.payload.start) × (r.payload.start ≤ r.payload.end)
-            × (r.payload.end + 16 ≤ length datagram.old)) }
-        ensures marked { IfPacket result (λ packet_type r. IsNew (space_of self.old packet_type) r.number
-            × Marks (space_of self.old packet_type) r.number (space_of self.new packet_type)) }
-        ensures followed { IfPacket result (λ packet_type _. self.new.one_rtt.sender
-            ≡ sender_after packet_type self.old.one_rtt self.new.one_rtt.receiver) }
-        ensures received { IfPacket result (λ packet_type _. self.new
-            ≡ with_sender (with_receiver self.old packet_type (receiver_of self.new packet_type) (space_of self.new packet_type))
-            self.new.one_rtt.sender) }
-        ensures receiver { IfPacket result (λ packet_type _. IsSome (receiver_of self.new packet_type)) }
-        ensures update { IfPacket result (λ packet_type _. update_of result
-            ≡ update_after packet_type self.old.one_rtt self.new.one_rtt.receiver) }
-        ensures failed { IsGiven result (Incoming.Dropped ReceiveError.Refused)
-            → self.new.failures ≡ record self.old.failures { count = self.old.failures.count + 1 } }
-        ensures not_failed { ¬ IsGiven result (Incoming.Dropped ReceiveError.Refused) → self.new.failures ≡ self.old.failures }
-        ensures dropped { IfOk result (λ step. ¬ IsSome (packet_in step.incoming)
-            → self.new ≡ record self.old { failures = self.new.failures }) }
-        ensures kept { OnErr result (self.new ≡ self.old) }
-        ensures bytes_kept { is_opened (opened_of result) ≡ false → datagram.new ≡ datagram.old }
-        ensures outside { (i : ℕ) → (i < at) ⊎ (end_of (packet_of self.old.fixed_bit id_len datagram.old at)
-            (length datagram.old) ≤ i) → slice_index datagram.new i ≡ slice_index datagram.old i }
+        ensures outcome { StepOutcome self.old self.new id_len id.now datagram.old datagram.new at result }
     {
         if self.failures.is_at_limit() {
             return Err(ReceiveError::TooManyFailures);
@@ -597,7 +525,7 @@ impl<const W: usize> Connection<W> {
     fn open(&mut self, datagram: &mut [u8], parts: &Packet) -> Opened
         requires { IsSome (receiver_of self.old parts.now.packet_type) }
         ensures tried { IfSome (receiver_of self.old parts.now.packet_type) (λ r.
-            IfSome (receiver_of self.new parts.now.packet_type) (λ r'. IsTried r (space_of self.old parts.now.packet_type)
+            IfSome (receiver_of self.new parts.now.packet_type) (λ r'. ReceiveOutcome r (space_of self.old parts.now.packet_type)
             self.old.failures parts.now datagram.old result.outcome r' (space_of self.new parts.now.packet_type)
             self.new.failures datagram.new)) }
         ensures some { IsSome (receiver_of self.new parts.now.packet_type) }
@@ -634,7 +562,7 @@ impl<const W: usize> Connection<W> {
         parts: &Packet,
     ) -> Result<Received, ReceiveError>
         requires { IsSome self.old.zero_rtt }
-        ensures tried { IfSome self.old.zero_rtt (λ r. IfSome self.new.zero_rtt (λ r'. IsTried r self.old.one_rtt.space
+        ensures tried { IfSome self.old.zero_rtt (λ r. IfSome self.new.zero_rtt (λ r'. ReceiveOutcome r self.old.one_rtt.space
             self.old.failures parts.now datagram.old result r' self.new.one_rtt.space self.new.failures datagram.new)) }
         ensures some { IsSome self.new.zero_rtt }
         ensures received { self.new ≡ record self.old {

@@ -129,15 +129,23 @@ impl HeaderKey {
         ensures protected { OnOk result (Protected self.now number_at packet.old packet.new) }
         ensures kept { OnErr result (packet.new ≡ packet.old) }
     {
-        let sample = sample_of(packet, number_at)?;
+        check_sample(packet, number_at)?;
+        self.protect_sampled(packet, number_at);
+        Ok(())
+    }
+
+    /// Does what `protect` does to a packet that is long enough for a sample.
+    pub(crate) fn protect_sampled(&self, packet: &mut [u8], number_at: usize)
+        requires { HasSample number_at (length packet.old) }
+        ensures { Protected self.now number_at packet.old packet.new }
+    {
+        let sample = sample_of(packet, number_at);
         let mut first = packet[0];
         let number = &mut packet[number_at..number_at + MAX_NUMBER_LEN];
-        match self.encrypt_in_place(&sample, &mut first, number) {
-            Ok(()) => {}
-            Err(_) => unreachable!(),
-        }
+        let Ok(()) = self.encrypt_in_place(&sample, &mut first, number) else {
+            unreachable!();
+        };
         packet[0] = first;
-        Ok(())
     }
 
     /// Unmasks the header of a received packet whose packet number begins at byte `number_at`, and returns the length of the
@@ -157,15 +165,25 @@ impl HeaderKey {
         ensures few { IfOk result (λ n. (0 < n) × (n ≤ 4)) }
         ensures kept { OnErr result (packet.new ≡ packet.old) }
     {
-        let sample = sample_of(packet, number_at)?;
+        check_sample(packet, number_at)?;
+        Ok(self.unprotect_sampled(packet, number_at))
+    }
+
+    /// Does what `unprotect` does to a packet that is long enough for a sample.
+    pub(crate) fn unprotect_sampled(&self, packet: &mut [u8], number_at: usize) -> usize
+        requires { HasSample number_at (length packet.old) }
+        ensures unprotected { Unprotected self.now number_at packet.old packet.new }
+        ensures number_len { result ≡ number_len (slice_index packet.new 0) }
+        ensures few { (0 < result) × (result ≤ 4) }
+    {
+        let sample = sample_of(packet, number_at);
         let mut first = packet[0];
         let number = &mut packet[number_at..number_at + MAX_NUMBER_LEN];
-        match self.decrypt_in_place(&sample, &mut first, number) {
-            Ok(()) => {}
-            Err(_) => unreachable!(),
-        }
+        let Ok(()) = self.decrypt_in_place(&sample, &mut first, number) else {
+            unreachable!();
+        };
         packet[0] = first;
-        Ok(number_len_in(first))
+        number_len_in(first)
     }
 
     /// The mask for a sample, with a packet number that is not too long.
@@ -187,18 +205,14 @@ impl HeaderKey {
     }
 }
 
-/// The sample of a packet, which has to have a first byte before its number, and to be long enough.
-fn sample_of(packet: &[u8], number_at: usize) -> Result<[u8; SAMPLE_LEN], MaskError>
-    ensures accepted { IsOk result ↔ HasSample number_at (length packet.now) }
-    ensures first_byte { IsErrOf result MaskError.NumberAtFirstByte ↔ (number_at ≡ 0) }
-    ensures no_sample { IsErrOf result MaskError.NoSample
-        ↔ ((0 < number_at) × (length packet.now < number_at + 20)) }
-    ensures sample { IfOk result (λ sample. sample ≡ slice_range packet.now (number_at + 4) (number_at + 20)) }
+/// The sample of a packet that is long enough for one.
+fn sample_of(packet: &[u8], number_at: usize) -> [u8; SAMPLE_LEN]
+    requires { HasSample number_at (length packet.now) }
+    ensures { result ≡ slice_range packet.now (number_at + 4) (number_at + 20) }
 {
-    check_sample(packet, number_at)?;
     let mut sample = [0; SAMPLE_LEN];
     sample.copy_from_slice(&packet[number_at + MAX_NUMBER_LEN..number_at + SAMPLE_END]);
-    Ok(sample)
+    sample
 }
 
 /// Checks that the packet has a first byte before its number, and is long enough for a sample.
@@ -218,23 +232,17 @@ fn check_sample(packet: &[u8], number_at: usize) -> Result<(), MaskError>
 }
 
 /// The bytes of a header that `unprotect` may change: the first byte, and four from the packet number on.
-///
-/// Fails as `unprotect` does.
-pub(crate) fn masked_bytes(packet: &[u8], number_at: usize) -> Result<[u8; 5], MaskError>
-    ensures accepted { IsOk result ↔ HasSample number_at (length packet.now) }
-    ensures first_byte { IsErrOf result MaskError.NumberAtFirstByte ↔ (number_at ≡ 0) }
-    ensures no_sample { IsErrOf result MaskError.NoSample
-        ↔ ((0 < number_at) × (length packet.now < number_at + 20)) }
-    ensures bytes { IfOk result (λ bytes. HasMaskedBytes bytes number_at packet.now) }
+pub(crate) fn masked_bytes(packet: &[u8], number_at: usize) -> [u8; 5]
+    requires { HasSample number_at (length packet.now) }
+    ensures { HasMaskedBytes result number_at packet.now }
 {
-    check_sample(packet, number_at)?;
-    Ok([
+    [
         packet[0],
         packet[number_at],
         packet[number_at + 1],
         packet[number_at + 2],
         packet[number_at + 3],
-    ])
+    ]
 }
 
 /// Writes back what `masked_bytes` returned.

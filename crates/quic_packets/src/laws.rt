@@ -12,15 +12,19 @@ ghost use Rattle.quic_packets.specs.HeaderBytes.{HasLongParts, HasShortParts, Is
 ghost use Rattle.quic_packets.specs.Laws.{OpensTo};
 ghost use Rattle.quic_packets.specs.Keys.{PacketKey as PacketKeyState, secret_key};
 ghost use Rattle.quic_packets.specs.Numbers.{InWindow, IsAbove, IsDecoded, Represents, expected, unacknowledged};
-ghost use Rattle.quic_packets.specs.Sending.{Runs, after_acknowledgement, header_version, is_unsent};
+ghost use Rattle.quic_packets.specs.Sending.{Runs, after_acknowledgement, header_version, is_unsent, IsInTurn, IsSealable, SenderRefuses};
+ghost use Rattle.quic_packets.specs.Space.{Space as SpaceState};
 ghost use Rattle.quic_packets.specs.Versions.{is_other_version};
 ghost use Rattle.quic_packets.specs.Packet.{HasNumber, IsNumber, low_bytes};
-ghost use Rattle.quic_packets.specs.Receiving.{Outcome, Reads, Receiver as ReceiverState};
+ghost use Rattle.quic_packets.specs.Receiving.{Outcome, Reads, Receiver as ReceiverState, EarlyRefuses, IsAdmitted, IsAuthentic, IsReadable, ReadRefuses, of_packet};
 ghost use Rattle.quic_packets.specs.Secrets.{ReceiverOf, SenderOf, secret_after};
 ghost use Rattle.quic_packets.specs.declared.datagram.Packet.{Packet};
 ghost use Rattle.quic_packets.specs.declared.receive_error.ReceiveError.{ReceiveError};
 ghost use Rattle.quic_packets.specs.declared.receiver.Received.{Received};
+ghost use Rattle.quic_packets.specs.declared.send_error.SendError.{SendError};
 
+use crate::datagram::Packet;
+use crate::failures::Failures;
 use crate::fixed_bit::FixedBit;
 use crate::header::HeaderKey;
 use crate::header_writer::{LongHeader, ShortHeader};
@@ -28,6 +32,7 @@ use crate::key::PacketKey;
 use crate::receiver::Receiver;
 use crate::sender::Sender;
 use crate::space::Space;
+use std::ops::Range;
 
 /// Unprotecting a protected header restores it, for every packet and key (RFC 9001 section 5.4).
 #[tactic(auto, using(crate::proofs::HeaderLemmas::unprotected_back))]
@@ -110,6 +115,39 @@ pub fn decoded_as_sent(
 pub fn low_bytes_are_low_bits(number: u64, len: usize)
     requires { (0 < len) × (len ≤ 4) }
     ensures { number_from_digits 256 (low_bytes len number) ≡ number % 2 ^ (8 * len) }
+{}
+
+/// A sender has one reason to refuse a packet, and none if it sends it: whichever error `Sender::send` returns, the reasons of the
+/// others don't hold.
+#[tactic(auto, using(crate::proofs::RefusalLemmas::one, crate::proofs::RefusalLemmas::none))]
+pub fn one_reason_to_refuse(
+    sender: &Sender,
+    fixed_bit: FixedBit,
+    packet: &[u8],
+    number: Range<usize>,
+)
+    ensures one { (e f : SendError) → SenderRefuses sender.now fixed_bit number.start number.end packet.now e
+        → SenderRefuses sender.now fixed_bit number.start number.end packet.now f → e ≡ f }
+    ensures none { (e : SendError) → SenderRefuses sender.now fixed_bit number.start number.end packet.now e
+        → ¬ (IsSealable sender.now.version fixed_bit number.start number.end packet.now
+        × IsInTurn sender.now number.start number.end) }
+{}
+
+/// A receiver has one reason to reject a packet, and none if it receives it: whichever error `Receiver::receive` returns, the reasons
+/// of the others don't hold.
+#[tactic(auto, using(crate::proofs::RefusalLemmas::one_early, crate::proofs::RefusalLemmas::not_readable, crate::proofs::RefusalLemmas::one_late, crate::proofs::RefusalLemmas::not_received))]
+pub fn one_reason_to_reject(receiver: &Receiver, failures: &Failures, parts: &Packet, len: usize)
+    ensures early { (e f : ReceiveError) → EarlyRefuses receiver.now failures.now parts.now len e
+        → EarlyRefuses receiver.now failures.now parts.now len f → e ≡ f }
+    ensures read { (e : ReceiveError) → EarlyRefuses receiver.now failures.now parts.now len e
+        → ¬ IsReadable receiver.now failures.now parts.now len }
+    ensures late { (s : SpaceState) → (start number_at : ℕ) → (plain : List ℕ) → (number : ℕ) → (e f : ReceiveError)
+        → ReadRefuses receiver.now s start number_at plain number e
+        → ReadRefuses receiver.now s start number_at plain number f → e ≡ f }
+    ensures received { (s : SpaceState) → (start number_at : ℕ) → (plain : List ℕ) → (number : ℕ) → (e : ReceiveError)
+        → ReadRefuses receiver.now s start number_at plain number e
+        → ¬ (IsAuthentic receiver.now number_at plain number
+        × IsAdmitted receiver.now s (slice_index plain 0) (of_packet start number_at plain number)) }
 {}
 
 /// Over every run of calls of one sender, the packet numbers that it seals under increase over all of its keys together, so no

@@ -1,16 +1,16 @@
 //! Receiving packets, over key updates (RFC 9001 sections 5.3, 5.4, 6.2 to 6.6 and 9.5).
 
-ghost use Rattle.std.specs.Prelude.{◌≡◌, ◌≢◌, ℕ, ◌+◌, ◌-◌, ◌<◌, ◌≤◌, ◌↔◌, false, true, length, List, ◌^◌, IsFalse, IsTrue, IsOk, IfOk, IfErr, IsErrOf, IsOkUnless, Some, None, IsSome, IfSome, OnOk, OnErr};
+ghost use Rattle.std.specs.Prelude.{◌≡◌, ◌≢◌, ℕ, ◌+◌, ◌-◌, ◌<◌, ◌≤◌, ◌↔◌, false, length, List, ◌^◌, IsTrue, IsOk, IfOk, IfErr, IsErrOf, IsOkUnless, Some, None, IsSome, IfSome, OnOk, OnErr};
 ghost use Rattle.std.specs.Option.{option_copied};
 ghost use Rattle.aead_ciphers.specs.Algorithm.{key_len};
-ghost use Rattle.quic_packets.specs.Datagram.{KeepsOutside, bytes_of, number_in};
+ghost use Rattle.quic_packets.specs.Datagram.{number_in};
 ghost use Rattle.quic_packets.specs.Header.{HasSample};
 ghost use Rattle.quic_packets.specs.Keys.{header_key, packet_key, secret_header_key, secret_key};
 ghost use Rattle.quic_packets.specs.Numbers.{expected};
 ghost use Rattle.quic_packets.specs.Packet.{IsNumber};
-ghost use Rattle.quic_packets.specs.Receiving.{IsInTurn, Opening, Outcome, Reads, highest_before, is_of_opened, is_other_phase, key_of, new_receiver, opening_key, received, reserved_bits, updated, with_next};
+ghost use Rattle.quic_packets.specs.Receiving.{IsInTurn, Opening, Reads, highest_before, is_other_phase, key_of, new_receiver, opening_key, received, updated, with_next, AdmitRefuses, IsAdmitted, ReceiveOutcome, EarlyRefuses, IsReadable};
 ghost use Rattle.quic_packets.specs.Sending.{HasKeyLengths};
-ghost use Rattle.quic_packets.specs.Space.{IsNew, Marks};
+ghost use Rattle.quic_packets.specs.Space.{Marks};
 ghost use Rattle.quic_packets.specs.Versions.{is_other_version};
 
 use crate::datagram::Packet;
@@ -22,7 +22,6 @@ use crate::header::{HeaderKey, SAMPLE_END, masked_bytes, restore_masked_bytes};
 use crate::key::PacketKey;
 use crate::key_error::KeyError;
 use crate::keys::{Keys, keys_of};
-use crate::mask_error::MaskError;
 use crate::numbers::{decode, truncated};
 use crate::receive_error::ReceiveError;
 use crate::space::Space;
@@ -253,78 +252,12 @@ impl Receiver {
         datagram: &mut [u8],
         parts: &Packet,
     ) -> Result<Received, ReceiveError>
-        ensures used_up { IsErrOf result ReceiveError.TooManyFailures ↔ (failures.old.limit ≤ failures.old.count) }
-        ensures past_end { IsErrOf result ReceiveError.PastEnd
-            ↔ ((failures.old.count < failures.old.limit) × (length datagram.old < parts.now.end)) }
-        ensures other_version { IsErrOf result ReceiveError.OtherVersion ↔ ((failures.old.count < failures.old.limit)
-            × (parts.now.end ≤ length datagram.old) × IsTrue (is_other_version self.old.version parts.now.version)) }
-        ensures no_number { IsErrOf result ReceiveError.NoNumber ↔ ((failures.old.count < failures.old.limit)
-            × (parts.now.end ≤ length datagram.old) × IsFalse (is_other_version self.old.version parts.now.version)
-            × ¬ IsSome parts.now.number_at) }
-        ensures first_byte { IsErrOf result ReceiveError.NumberAtFirstByte
-            ↔ ((failures.old.count < failures.old.limit) × (parts.now.end ≤ length datagram.old)
-            × IsFalse (is_other_version self.old.version parts.now.version)
-            × IsSome parts.now.number_at × (number_in parts.now ≡ 0)) }
-        ensures no_sample { IsErrOf result ReceiveError.NoSample ↔ ((failures.old.count < failures.old.limit)
-            × (parts.now.end ≤ length datagram.old) × IsFalse (is_other_version self.old.version parts.now.version)
-            × (0 < number_in parts.now) × (parts.now.end - parts.now.start < number_in parts.now + 20)) }
-        ensures outcome { failures.old.count < failures.old.limit → parts.now.end ≤ length datagram.old
-            → IsFalse (is_other_version self.old.version parts.now.version)
-            → HasSample (number_in parts.now) (parts.now.end - parts.now.start) → (plain : List ℕ) × (number : ℕ)
-            × Reads self.old.header space.old.next (number_in parts.now) (bytes_of parts.now datagram.old) plain number
-            × Outcome self.old space.old parts.now.start (number_in parts.now) plain number result self.new
-            (bytes_of parts.now datagram.new) }
-        ensures payload { IfOk result (λ r. (parts.now.start < r.payload.start) × (r.payload.start ≤ r.payload.end)
-            × (r.payload.end + 16 ≡ parts.now.end) × (parts.now.end ≤ length datagram.old)) }
-        ensures marked { IfOk result (λ r. IsNew space.old r.number × Marks space.old r.number space.new) }
-        ensures failed { IsErrOf result ReceiveError.Refused
-            → failures.new ≡ record failures.old { count = failures.old.count + 1 } }
-        ensures not_failed { ¬ IsErrOf result ReceiveError.Refused → failures.new ≡ failures.old }
-        ensures kept { OnErr result ((self.new ≡ self.old) × (space.new ≡ space.old)) }
-        ensures bytes_kept { IfErr result (λ error. is_of_opened error ≡ false → datagram.new ≡ datagram.old) }
-        ensures outside { KeepsOutside parts.now.start parts.now.end datagram.old datagram.new }
+        ensures outcome { ReceiveOutcome self.old space.old failures.old parts.now datagram.old result
+            self.new space.new failures.new datagram.new }
     {
-        if failures.is_at_limit() {
-            return Err(ReceiveError::TooManyFailures);
-        }
-        let number_at = place_of_number(parts, datagram.len(), self.version)?;
+        let number_at = self.place_of_number(failures, parts, datagram.len())?;
         let start = parts.start;
-        self.receive_packet(
-            space,
-            failures,
-            &mut datagram[start..parts.end],
-            number_at,
-            start,
-        )
-    }
-
-    /// Receives a packet that begins at byte `start` of its datagram. `number_at` is counted from the packet.
-    fn receive_packet<const W: usize>(
-        &mut self,
-        space: &mut Space<W>,
-        failures: &mut Failures,
-        packet: &mut [u8],
-        number_at: usize,
-        start: usize,
-    ) -> Result<Received, ReceiveError>
-        requires left { failures.old.count < failures.old.limit }
-        requires sample { HasSample number_at (length packet.old) }
-        requires place { start + length packet.old < 2 ^ 64 }
-        ensures outcome { (plain : List ℕ) × (number : ℕ)
-            × Reads self.old.header space.old.next number_at packet.old plain number
-            × Outcome self.old space.old start number_at plain number result self.new packet.new }
-        ensures payload { IfOk result (λ r. (start < r.payload.start) × (r.payload.start ≤ r.payload.end)
-            × (r.payload.end + 16 ≡ start + length packet.old)) }
-        ensures marked { IfOk result (λ r. IsNew space.old r.number × Marks space.old r.number space.new) }
-        ensures failed { IsErrOf result ReceiveError.Refused
-            → failures.new ≡ record failures.old { count = failures.old.count + 1 } }
-        ensures not_failed { ¬ IsErrOf result ReceiveError.Refused → failures.new ≡ failures.old }
-        ensures kept { OnErr result ((self.new ≡ self.old) × (space.new ≡ space.old)) }
-        ensures bytes_kept { IfErr result (λ error. is_of_opened error ≡ false → packet.new ≡ packet.old) }
-        ensures others { ¬ IsErrOf result ReceiveError.TooManyFailures × ¬ IsErrOf result ReceiveError.PastEnd
-            × ¬ IsErrOf result ReceiveError.NoNumber × ¬ IsErrOf result ReceiveError.NumberAtFirstByte
-            × ¬ IsErrOf result ReceiveError.NoSample × ¬ IsErrOf result ReceiveError.OtherVersion }
-    {
+        let packet = &mut datagram[start..parts.end];
         match self.open(space.largest(), packet, number_at, start) {
             Ok((first, received)) => {
                 self.admit(space, first, &received)?;
@@ -337,6 +270,36 @@ impl Receiver {
         }
     }
 
+    /// The position of the packet number, counted from the packet, if the packet is to be read.
+    fn place_of_number(
+        &self,
+        failures: &Failures,
+        parts: &Packet,
+        len: usize,
+    ) -> Result<usize, ReceiveError>
+        ensures accepted { IsOk result ↔ IsReadable self.now failures.now parts.now len }
+        ensures refused { IfErr result (EarlyRefuses self.now failures.now parts.now len) }
+        ensures place { IfOk result (λ at. at ≡ number_in parts.now) }
+    {
+        if failures.is_at_limit() {
+            return Err(ReceiveError::TooManyFailures);
+        }
+        if parts.end > len {
+            return Err(ReceiveError::PastEnd);
+        }
+        if is_other_version(self.version, parts.version) {
+            return Err(ReceiveError::OtherVersion);
+        }
+        let number_at = parts.number_at.ok_or(ReceiveError::NoNumber)?;
+        if number_at <= parts.start {
+            return Err(ReceiveError::NumberAtFirstByte);
+        }
+        if parts.end < number_at || parts.end - number_at < SAMPLE_END {
+            return Err(ReceiveError::NoSample);
+        }
+        Ok(number_at - parts.start)
+    }
+
     /// Unmasks the header, decodes the number and opens the packet. Writes the header's masked bytes back if it fails. Also
     /// returns the header's first byte.
     fn open(
@@ -346,32 +309,19 @@ impl Receiver {
         number_at: usize,
         start: usize,
     ) -> Result<(u8, Received), ReceiveError>
+        requires sample { HasSample number_at (length packet.old) }
         requires place { start + length packet.old < 2 ^ 64 }
-        ensures first_byte { IsErrOf result ReceiveError.NumberAtFirstByte ↔ (number_at ≡ 0) }
-        ensures no_sample { IsErrOf result ReceiveError.NoSample
-            ↔ ((0 < number_at) × (length packet.old < number_at + 20)) }
-        ensures opening { HasSample number_at (length packet.old) → (plain : List ℕ) × (number : ℕ)
+        ensures opening { (plain : List ℕ) × (number : ℕ)
             × Reads self.now.header (expected largest) number_at packet.old plain number
             × Opening self.now start number_at plain number result packet.new }
         ensures number { IfOk result (λ opened. IsNumber opened.1.number) }
-        ensures sampled { OnOk result (HasSample number_at (length packet.old)) }
         ensures payload { IfOk result (λ opened. (start < opened.1.payload.start)
             × (opened.1.payload.start ≤ opened.1.payload.end)
             × (opened.1.payload.end + 16 ≡ start + length packet.old)) }
         ensures kept { OnErr result (packet.new ≡ packet.old) }
-        ensures others { ¬ IsErrOf result ReceiveError.TooManyFailures × ¬ IsErrOf result ReceiveError.PastEnd
-            × ¬ IsErrOf result ReceiveError.NoNumber × ¬ IsErrOf result ReceiveError.ReservedBits × ¬ IsErrOf result ReceiveError.Duplicate
-            × ¬ IsErrOf result ReceiveError.KeyUpdate × ¬ IsErrOf result ReceiveError.NoFrames
-            × ¬ IsErrOf result ReceiveError.OtherVersion }
     {
-        let masked = match masked_bytes(packet, number_at) {
-            Ok(masked) => masked,
-            Err(MaskError::NumberAtFirstByte) => return Err(ReceiveError::NumberAtFirstByte),
-            Err(_) => return Err(ReceiveError::NoSample),
-        };
-        let Ok(number_len) = self.header.unprotect(packet, number_at) else {
-            unreachable!();
-        };
+        let masked = masked_bytes(packet, number_at);
+        let number_len = self.header.unprotect_sampled(packet, number_at);
         let first = packet[0];
         let header_len = number_at + number_len;
         let number = decode(
@@ -483,17 +433,8 @@ impl Receiver {
         opened: &Received,
     ) -> Result<(), ReceiveError>
         requires { IsNumber opened.now.number }
-        ensures accepted { IsOk result ↔ ((reserved_bits first ≡ 0) × IsNew space.old opened.now.number
-            × IsInTurn self.old first opened.now.number × (opened.now.payload.start < opened.now.payload.end)) }
-        ensures reserved { IsErrOf result ReceiveError.ReservedBits ↔ (reserved_bits first ≢ 0) }
-        ensures duplicate { IsErrOf result ReceiveError.Duplicate
-            ↔ ((reserved_bits first ≡ 0) × ¬ IsNew space.old opened.now.number) }
-        ensures out_of_turn { IsErrOf result ReceiveError.KeyUpdate ↔ ((reserved_bits first ≡ 0)
-            × IsNew space.old opened.now.number × ¬ IsInTurn self.old first opened.now.number) }
-        ensures no_frames { IsErrOf result ReceiveError.NoFrames ↔ ((reserved_bits first ≡ 0)
-            × IsNew space.old opened.now.number × IsInTurn self.old first opened.now.number
-            × (opened.now.payload.end ≤ opened.now.payload.start)) }
-        ensures others { IfErr result (λ error. is_of_opened error ≡ true) }
+        ensures accepted { IsOk result ↔ IsAdmitted self.old space.old first opened.now }
+        ensures refused { IfErr result (AdmitRefuses self.old space.old first opened.now) }
         ensures moved_on { OnOk result (self.new ≡ received self.old first opened.now.number) }
         ensures marked { OnOk result (Marks space.old opened.now.number space.new) }
         ensures kept { OnErr result ((self.new ≡ self.old) × (space.new ≡ space.old)) }
@@ -520,40 +461,4 @@ impl Receiver {
         self.move_on(first, number);
         Ok(())
     }
-}
-
-/// The position of the packet number, counted from the packet, if the packet ends within a datagram of this length, has no other
-/// version, and is long enough for a sample.
-fn place_of_number(parts: &Packet, len: usize, version: Version) -> Result<usize, ReceiveError>
-    ensures accepted { IsOk result ↔ ((parts.now.end ≤ len) × IsFalse (is_other_version version parts.now.version)
-        × HasSample (number_in parts.now) (parts.now.end - parts.now.start)) }
-    ensures past_end { IsErrOf result ReceiveError.PastEnd ↔ (len < parts.now.end) }
-    ensures other_version { IsErrOf result ReceiveError.OtherVersion
-        ↔ ((parts.now.end ≤ len) × IsTrue (is_other_version version parts.now.version)) }
-    ensures no_number { IsErrOf result ReceiveError.NoNumber ↔ ((parts.now.end ≤ len)
-        × IsFalse (is_other_version version parts.now.version) × ¬ IsSome parts.now.number_at) }
-    ensures first_byte { IsErrOf result ReceiveError.NumberAtFirstByte ↔ ((parts.now.end ≤ len)
-        × IsFalse (is_other_version version parts.now.version)
-        × IsSome parts.now.number_at × (number_in parts.now ≡ 0)) }
-    ensures no_sample { IsErrOf result ReceiveError.NoSample ↔ ((parts.now.end ≤ len)
-        × IsFalse (is_other_version version parts.now.version) × (0 < number_in parts.now)
-        × (parts.now.end - parts.now.start < number_in parts.now + 20)) }
-    ensures place { IfOk result (λ at. at ≡ number_in parts.now) }
-    ensures others { ¬ IsErrOf result ReceiveError.TooManyFailures × ¬ IsErrOf result ReceiveError.Refused }
-    ensures unopened { IfErr result (λ error. is_of_opened error ≡ false) }
-{
-    if parts.end > len {
-        return Err(ReceiveError::PastEnd);
-    }
-    if is_other_version(version, parts.version) {
-        return Err(ReceiveError::OtherVersion);
-    }
-    let number_at = parts.number_at.ok_or(ReceiveError::NoNumber)?;
-    if number_at <= parts.start {
-        return Err(ReceiveError::NumberAtFirstByte);
-    }
-    if parts.end < number_at || parts.end - number_at < SAMPLE_END {
-        return Err(ReceiveError::NoSample);
-    }
-    Ok(number_at - parts.start)
 }

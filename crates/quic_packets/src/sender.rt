@@ -1,14 +1,10 @@
 //! Sending packets, each in one call, over key updates (RFC 9001 sections 5 and 6).
 
-ghost use Rattle.std.specs.Prelude.{◌≡◌, ℕ, ◌≢◌, ◌+◌, ◌-◌, ◌^◌, ◌<◌, ◌≤◌, ◌↔◌, true, false, min, length, slice_index, IsOk, IfOk, IsErrOf, IsOkUnless, IsSome, IfSome, IsFalse, IsTrue, OnOk, OnErr, Some, None};
+ghost use Rattle.std.specs.Prelude.{◌≡◌, ℕ, ◌≢◌, ◌+◌, ◌-◌, ◌^◌, ◌<◌, ◌≤◌, ◌↔◌, true, false, min, length, IsOk, IfOk, IsErrOf, IsOkUnless, IsSome, IfSome, IsFalse, IsTrue, OnOk, OnErr, Some, None, IfErr};
 ghost use Rattle.aead_ciphers.specs.Algorithm.{key_len};
-ghost use Rattle.aead_ciphers.specs.Gcm.{Fits};
-ghost use Rattle.aead_ciphers.specs.Packet.{PacketFits};
-ghost use Rattle.quic_packets.specs.FixedBit.{lacks_fixed_bit};
-ghost use Rattle.quic_packets.specs.Header.{HasSample};
 ghost use Rattle.quic_packets.specs.Keys.{header_key, packet_key, secret_header_key, secret_key};
 ghost use Rattle.quic_packets.specs.Packet.{IsNumber};
-ghost use Rattle.quic_packets.specs.Sending.{HasKeyLengths, IsEncodable, IsInTurn, IsOpen, IsRoom, IsSealable, IsSent, after_acknowledgement, after_send, after_skip, after_update, first_byte, header_version, is_retry_or_version_negotiation, new_sender, numbered_packet, with_installed_keys, IsUnanswered, after_derived_update, is_unsent};
+ghost use Rattle.quic_packets.specs.Sending.{HasKeyLengths, IsEncodable, IsInTurn, IsRoom, IsSealable, after_acknowledgement, after_send, after_skip, after_update, first_byte, header_version, is_retry_or_version_negotiation, new_sender, numbered_packet, with_installed_keys, IsUnanswered, after_derived_update, is_unsent, NumberRefuses, PacketRefuses, SendOutcome, SenderRefuses};
 ghost use Rattle.quic_packets.specs.Versions.{is_other_version};
 
 use crate::datagram::version;
@@ -578,51 +574,9 @@ impl Sender {
         number: Range<usize>,
         fixed_bit: FixedBit,
     ) -> Result<u64, SendError>
-        ensures accepted { IsOk result ↔ (IsSealable self.old.version fixed_bit number.start number.end packet.old
-            × IsInTurn self.old number.start number.end) }
-        ensures too_short { IsErrOf result SendError.TooShort ↔ (length packet.old < number.end + 16) }
-        ensures too_long { IsErrOf result SendError.TooLong ↔ ((number.end + 16 ≤ length packet.old)
-            × ¬ Fits number.end (length packet.old - 16 - number.end)) }
-        ensures first_byte { IsErrOf result SendError.NumberAtFirstByte
-            ↔ (PacketFits number.end (length packet.old) × (number.start ≡ 0)) }
-        ensures no_sample { IsErrOf result SendError.NoSample ↔ (PacketFits number.end (length packet.old)
-            × (0 < number.start) × (length packet.old < number.start + 20)) }
-        ensures no_protection { IsErrOf result SendError.NoProtection
-            ↔ (PacketFits number.end (length packet.old) × HasSample number.start (length packet.old)
-            × IsTrue (is_retry_or_version_negotiation self.old.version packet.old)) }
-        ensures other_version { IsErrOf result SendError.OtherVersion
-            ↔ (PacketFits number.end (length packet.old) × HasSample number.start (length packet.old)
-            × IsFalse (is_retry_or_version_negotiation self.old.version packet.old)
-            × IsTrue (is_other_version self.old.version (header_version packet.old))) }
-        ensures no_fixed_bit { IsErrOf result SendError.NoFixedBit
-            ↔ (PacketFits number.end (length packet.old) × HasSample number.start (length packet.old)
-            × IsFalse (is_retry_or_version_negotiation self.old.version packet.old)
-            × IsFalse (is_other_version self.old.version (header_version packet.old))
-            × IsTrue (lacks_fixed_bit fixed_bit (header_version packet.old) (slice_index packet.old 0))) }
-        ensures empty { IsErrOf result SendError.EmptyPayload
-            ↔ (PacketFits number.end (length packet.old) × HasSample number.start (length packet.old)
-            × IsFalse (is_retry_or_version_negotiation self.old.version packet.old)
-            × IsFalse (is_other_version self.old.version (header_version packet.old))
-            × IsFalse (lacks_fixed_bit fixed_bit (header_version packet.old) (slice_index packet.old 0))
-            × (length packet.old ≡ number.end + 16)) }
-        ensures used_up { IsErrOf result SendError.KeyUsedUp
-            ↔ (IsSealable self.old.version fixed_bit number.start number.end packet.old × (self.old.limit ≤ self.old.sealed)) }
-        ensures ended { IsErrOf result SendError.NumbersEnded
-            ↔ (IsSealable self.old.version fixed_bit number.start number.end packet.old × (self.old.sealed < self.old.limit)
-            × (self.old.next ≡ 2 ^ 62)) }
-        ensures too_far { IsErrOf result SendError.NumberTooFar
-            ↔ (IsSealable self.old.version fixed_bit number.start number.end packet.old × IsOpen self.old
-            × ¬ IsEncodable self.old) }
-        ensures number_length { IsErrOf result SendError.NumberLength
-            ↔ (IsSealable self.old.version fixed_bit number.start number.end packet.old × IsOpen self.old
-            × IsEncodable self.old
-            × ¬ IsRoom self.old.next self.old.largest number.start number.end) }
-        ensures sent { OnOk result (IsSent self.old number.start number.end packet.old packet.new) }
-        ensures number { IfOk result (λ n. n ≡ self.old.next) }
-        ensures counted { OnOk result (self.new ≡ after_send self.old) }
-        ensures with_keys { ¬ IsErrOf result SendError.NoKeys }
-        ensures kept { OnErr result (packet.new ≡ packet.old) }
-        ensures sender_kept { OnErr result (self.new ≡ self.old) }
+        ensures outcome { SendOutcome self.old 0 fixed_bit number.start number.end
+            (SenderRefuses self.old fixed_bit number.start number.end packet.old) packet.old packet.new
+            result self.old.next self.old self.new (after_send self.old) }
     {
         let number_at = number.start;
         let header_len = number.end;
@@ -633,9 +587,7 @@ impl Sender {
         let Ok(()) = self.key.seal(next, packet, header_len) else {
             unreachable!();
         };
-        let Ok(()) = self.header_key.protect(packet, number_at) else {
-            unreachable!();
-        };
+        self.header_key.protect_sampled(packet, number_at);
         self.next += 1;
         self.sealed += 1;
         Ok(next)
@@ -644,18 +596,7 @@ impl Sender {
     /// Checks that the next number can be sent in this room.
     fn check_number(&self, number_at: usize, header_len: usize) -> Result<(), SendError>
         ensures accepted { IsOk result ↔ IsInTurn self.now number_at header_len }
-        ensures used_up { IsErrOf result SendError.KeyUsedUp ↔ (self.now.limit ≤ self.now.sealed) }
-        ensures ended { IsErrOf result SendError.NumbersEnded
-            ↔ ((self.now.sealed < self.now.limit) × (self.now.next ≡ 2 ^ 62)) }
-        ensures too_far { IsErrOf result SendError.NumberTooFar
-            ↔ (IsOpen self.now × ¬ IsEncodable self.now) }
-        ensures number_length { IsErrOf result SendError.NumberLength
-            ↔ (IsOpen self.now × IsEncodable self.now
-            × ¬ IsRoom self.now.next self.now.largest number_at header_len) }
-        ensures others { ¬ IsErrOf result SendError.TooShort × ¬ IsErrOf result SendError.TooLong
-            × ¬ IsErrOf result SendError.NumberAtFirstByte × ¬ IsErrOf result SendError.NoSample
-            × ¬ IsErrOf result SendError.NoProtection × ¬ IsErrOf result SendError.OtherVersion
-            × ¬ IsErrOf result SendError.EmptyPayload × ¬ IsErrOf result SendError.NoKeys }
+        ensures refused { IfErr result (NumberRefuses self.now number_at header_len) }
         ensures bound { OnOk result (header_len ≤ number_at + 4) }
     {
         if self.sealed >= self.limit {
@@ -684,34 +625,7 @@ fn check_packet(
     version: Version,
 ) -> Result<(), SendError>
     ensures accepted { IsOk result ↔ IsSealable version fixed_bit number_at header_len packet.now }
-    ensures too_short { IsErrOf result SendError.TooShort ↔ (length packet.now < header_len + 16) }
-    ensures too_long { IsErrOf result SendError.TooLong ↔ ((header_len + 16 ≤ length packet.now)
-        × ¬ Fits header_len (length packet.now - 16 - header_len)) }
-    ensures first_byte { IsErrOf result SendError.NumberAtFirstByte
-        ↔ (PacketFits header_len (length packet.now) × (number_at ≡ 0)) }
-    ensures no_sample { IsErrOf result SendError.NoSample ↔ (PacketFits header_len (length packet.now)
-        × (0 < number_at) × (length packet.now < number_at + 20)) }
-    ensures no_protection { IsErrOf result SendError.NoProtection
-        ↔ (PacketFits header_len (length packet.now) × HasSample number_at (length packet.now)
-        × IsTrue (is_retry_or_version_negotiation version packet.now)) }
-    ensures other_version { IsErrOf result SendError.OtherVersion
-        ↔ (PacketFits header_len (length packet.now) × HasSample number_at (length packet.now)
-        × IsFalse (is_retry_or_version_negotiation version packet.now)
-        × IsTrue (is_other_version version (header_version packet.now))) }
-    ensures no_fixed_bit { IsErrOf result SendError.NoFixedBit
-        ↔ (PacketFits header_len (length packet.now) × HasSample number_at (length packet.now)
-        × IsFalse (is_retry_or_version_negotiation version packet.now)
-        × IsFalse (is_other_version version (header_version packet.now))
-        × IsTrue (lacks_fixed_bit fixed_bit (header_version packet.now) (slice_index packet.now 0))) }
-    ensures empty { IsErrOf result SendError.EmptyPayload
-        ↔ (PacketFits header_len (length packet.now) × HasSample number_at (length packet.now)
-        × IsFalse (is_retry_or_version_negotiation version packet.now)
-        × IsFalse (is_other_version version (header_version packet.now))
-        × IsFalse (lacks_fixed_bit fixed_bit (header_version packet.now) (slice_index packet.now 0))
-        × (length packet.now ≡ header_len + 16)) }
-    ensures others { ¬ IsErrOf result SendError.KeyUsedUp × ¬ IsErrOf result SendError.NumbersEnded
-        × ¬ IsErrOf result SendError.NumberTooFar × ¬ IsErrOf result SendError.NumberLength
-        × ¬ IsErrOf result SendError.NoKeys }
+    ensures refused { IfErr result (PacketRefuses version fixed_bit number_at header_len packet.now) }
 {
     let payload_len = payload_len(packet, header_len).ok_or(SendError::TooShort)?;
     if !fits(header_len, payload_len) {

@@ -1,12 +1,11 @@
 //! The keys of an encryption level, for both directions, and its space of packet numbers.
 
-ghost use Rattle.std.specs.Prelude.{◌≡◌, ◌^◌, ◌<◌, ◌≤◌, ◌↔◌, false, Some, None, IsFalse, IsTrue, IsSome, IfSome, IsOk, IfOk, IsErrOf, IsOkUnless, OnOk, OnErr};
+ghost use Rattle.std.specs.Prelude.{◌≡◌, ◌^◌, ◌<◌, ◌≤◌, ◌↔◌, false, Some, None, IsFalse, IsTrue, IsSome, IfSome, IsOk, IsErrOf, IsOkUnless, OnOk, OnErr};
 ghost use Rattle.std.specs.Option.{option_copied};
-ghost use Rattle.quic_packets.specs.Connection.{IsTried};
-ghost use Rattle.quic_packets.specs.Ends.{Installs, Refuses, after_discard, confirmed, following, forgotten, in_phase, initiated, installed, is_confirmed, is_due, kept_back, left, may_update, no_ends, peer_update, phase_of, renewed, renews, sent, sent_as, update_into, with_next_key};
+ghost use Rattle.quic_packets.specs.Ends.{Installs, after_discard, confirmed, following, forgotten, in_phase, initiated, installed, is_confirmed, is_due, kept_back, may_update, no_ends, peer_update, phase_of, renewed, renews, sent, update_into, with_next_key, EndOutcome};
 ghost use Rattle.quic_packets.specs.Keys.{secret_header_key, secret_key};
-ghost use Rattle.quic_packets.specs.Receiving.{new_receiver};
-ghost use Rattle.quic_packets.specs.Sending.{IsInTurn, IsSealable, IsSent, IsUnanswered, after_acknowledgement, after_skip, is_unsent};
+ghost use Rattle.quic_packets.specs.Receiving.{new_receiver, ReceiveOutcome};
+ghost use Rattle.quic_packets.specs.Sending.{IsUnanswered, after_acknowledgement, after_skip, is_unsent};
 
 use crate::connection::incoming::{Opened, PeerUpdate};
 use crate::datagram::Packet;
@@ -171,16 +170,8 @@ impl<const W: usize> Ends<W> {
         fixed_bit: FixedBit,
         kept_back: u64,
     ) -> Result<SentPacket, SendError>
-        ensures no_keys { IsErrOf result SendError.NoKeys ↔ ¬ IsSome self.old.sender }
-        ensures used_up { IfSome self.old.sender (λ s. IsErrOf result SendError.KeyUsedUp ↔ (left s ≤ kept_back)) }
-        ensures accepted { IfSome self.old.sender (λ s. IsOk result ↔ ((kept_back < left s)
-            × IsSealable s.version fixed_bit number.start number.end packet.old × IsInTurn s number.start number.end)) }
-        ensures refused { IfSome self.old.sender (λ s. kept_back < left s
-            → Refuses s fixed_bit number.start number.end packet.old result) }
-        ensures sent { IfSome self.old.sender (λ s. OnOk result (IsSent s number.start number.end packet.old packet.new)) }
-        ensures number { IfSome self.old.sender (λ s. IfOk result (λ p. p ≡ sent_as s false)) }
-        ensures counted { IfSome self.old.sender (λ s. OnOk result (self.new ≡ sent self.old s)) }
-        ensures kept { OnErr result ((packet.new ≡ packet.old) × (self.new ≡ self.old)) }
+        ensures outcome { EndOutcome self.old.sender kept_back fixed_bit number.start number.end packet.old packet.new
+            result (λ s. false) self.old self.new (λ s. sent self.old s) }
     {
         let Some(sender) = &mut self.sender else {
             return Err(SendError::NoKeys);
@@ -202,17 +193,9 @@ impl<const W: usize> Ends<W> {
         number: Range<usize>,
         fixed_bit: FixedBit,
     ) -> Result<SentPacket, SendError>
-        ensures no_keys { IsErrOf result SendError.NoKeys ↔ ¬ IsSome self.old.sender }
-        ensures used_up { IfSome self.old.sender (λ s. IsErrOf result SendError.KeyUsedUp
-            ↔ (left s ≤ kept_back self.old)) }
-        ensures accepted { IfSome self.old.sender (λ s. IsOk result ↔ ((kept_back self.old < left s)
-            × IsSealable s.version fixed_bit number.start number.end packet.old × IsInTurn s number.start number.end)) }
-        ensures refused { IfSome self.old.sender (λ s. kept_back self.old < left s
-            → Refuses s fixed_bit number.start number.end packet.old result) }
-        ensures sent { IfSome self.old.sender (λ s. OnOk result (IsSent s number.start number.end packet.old packet.new)) }
-        ensures number { IfSome self.old.sender (λ s. IfOk result (λ p. p ≡ sent_as s (renews (sent self.old s)))) }
-        ensures counted { IfSome self.old.sender (λ s. OnOk result (self.new ≡ with_next_key (renewed (sent self.old s)))) }
-        ensures kept { OnErr result ((packet.new ≡ packet.old) × (self.new ≡ self.old)) }
+        ensures outcome { EndOutcome self.old.sender (kept_back self.old) fixed_bit number.start number.end
+            packet.old packet.new result (λ s. renews (sent self.old s)) self.old self.new
+            (λ s. with_next_key (renewed (sent self.old s))) }
     {
         let kept_back = self.kept_back();
         let sent = self.send(packet, number, fixed_bit, kept_back)?;
@@ -343,7 +326,7 @@ impl<const W: usize> Ends<W> {
         parts: &Packet,
     ) -> Result<Received, ReceiveError>
         requires { IsSome self.old.receiver }
-        ensures tried { IfSome self.old.receiver (λ r. IfSome self.new.receiver (λ r'. IsTried r self.old.space failures.old
+        ensures tried { IfSome self.old.receiver (λ r. IfSome self.new.receiver (λ r'. ReceiveOutcome r self.old.space failures.old
             parts.now datagram.old result r' self.new.space failures.new datagram.new)) }
         ensures some { IsSome self.new.receiver }
         ensures sender { self.new.sender ≡ self.old.sender }
@@ -364,7 +347,7 @@ impl<const W: usize> Ends<W> {
         datagram: &mut [u8],
         parts: &Packet,
     ) -> Result<Received, ReceiveError>
-        ensures tried { IsTried receiver.old self.old.space failures.old parts.now datagram.old result receiver.new
+        ensures tried { ReceiveOutcome receiver.old self.old.space failures.old parts.now datagram.old result receiver.new
             self.new.space failures.new datagram.new }
         ensures ends { self.new ≡ record self.old { space = self.new.space } }
         ensures kept { OnErr result ((self.new ≡ self.old) × (receiver.new ≡ receiver.old)) }
@@ -380,7 +363,7 @@ impl<const W: usize> Ends<W> {
         parts: &Packet,
     ) -> Opened
         requires { IsSome self.old.receiver }
-        ensures tried { IfSome self.old.receiver (λ r. IfSome self.new.receiver (λ r'. IsTried r self.old.space failures.old
+        ensures tried { IfSome self.old.receiver (λ r. IfSome self.new.receiver (λ r'. ReceiveOutcome r self.old.space failures.old
             parts.now datagram.old result.outcome r' self.new.space failures.new datagram.new)) }
         ensures some { IsSome self.new.receiver }
         ensures followed { self.new.sender ≡ following self.old.sender (phase_of self.old.receiver) (phase_of self.new.receiver) }
@@ -388,25 +371,18 @@ impl<const W: usize> Ends<W> {
         ensures update { result.update ≡ peer_update self.old.sender (phase_of self.old.receiver) (phase_of self.new.receiver) }
         ensures kept { OnErr result.outcome (self.new ≡ self.old) }
     {
-        let before = self.receiver_phase();
-        let outcome = self.open(failures, datagram, parts);
-        let after = self.receiver_phase();
+        let Some(receiver) = &mut self.receiver else {
+            unreachable!();
+        };
+        let before = receiver.phase();
+        let outcome = receiver.receive(&mut self.space, failures, datagram, parts);
+        let after = receiver.phase();
         let update = if before == after {
             None
         } else {
             Some(self.enter(after))
         };
         Opened { outcome, update }
-    }
-
-    /// The receiver's key phase.
-    fn receiver_phase(&self) -> bool
-        ensures { result ≡ phase_of self.now.receiver }
-    {
-        match &self.receiver {
-            Some(receiver) => receiver.phase(),
-            None => false,
-        }
     }
 
     /// Updates the sender's keys, unless it is in this phase, and returns the peer's update by which the receiver has entered it.

@@ -1,8 +1,7 @@
 //! What becomes of a packet that arrives.
 
-ghost use Rattle.std.specs.Prelude.{◌≡◌, None, IsSome, IfErr, is_ok};
-ghost use Rattle.quic_packets.specs.Connection.{IsGiven, incoming_of, step_of};
-ghost use Rattle.quic_packets.specs.Errors.{receive_error_code};
+ghost use Rattle.std.specs.Prelude.{◌≡◌, None};
+ghost use Rattle.quic_packets.specs.Connection.{given_of};
 
 use crate::datagram::PacketType;
 use crate::receive_error::ReceiveError;
@@ -69,9 +68,7 @@ pub(crate) fn step_of(
     packet_type: PacketType,
     opened: Opened,
 ) -> Result<Step, ReceiveError>
-    ensures stepped { result ≡ step_of next (incoming_of (is_ok result) packet_type opened.update opened.outcome) }
-    ensures closes { IfErr result (λ error. IsSome (receive_error_code error)) }
-    ensures drops { (error : ReceiveError) → IsGiven result (Incoming.Dropped error) → receive_error_code error ≡ None }
+    ensures { result ≡ given_of next packet_type opened.update opened.outcome }
 {
     let incoming = match opened.outcome {
         Ok(received) => Incoming::Packet(packet_type, received, opened.update),

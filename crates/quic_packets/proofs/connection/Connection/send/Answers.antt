@@ -1,28 +1,24 @@
+use denote.Param.{number, param}
+use Rattle.quic_packets.specs.Connection.{with_ends}
+use Rattle.quic_packets.specs.contracts.connection.Connection.{the_view}
+use Rattle.quic_packets.specs.declared.connection.Level.TheVariants.{Initial, Handshake, OneRtt}
+use Rattle.quic_packets.proofs.OutcomeLemmas.{within}
 use Rattle.quic_packets.proofs.connection.Connection.send.Goals as goal
 
-pub returns-in-Initial-clause-used_up : goal.returns-in-Initial-clause-used_up
-returns-in-Initial-clause-used_up g c = rw (← c.self.view_is, c.in-Initial.is) c.send.ensures.used_up
+pub returns-in-Initial : goal.returns-in-Initial
+returns-in-Initial g c = record {
+  outcome = rw (← c.self.view_is, c.in-Initial.is)
+      (within (with_ends (the_view (param 0 (number g.row.W)) c.self.inside) Initial) _ _ _ _ _ _ _ _ _ _ _ _ c.send.ensures.outcome);
+}
 
-pub returns-in-Initial-clause-accepted : goal.returns-in-Initial-clause-accepted
-returns-in-Initial-clause-accepted g c = rw (← c.self.view_is, c.in-Initial.is) c.send.ensures.accepted
+pub returns-in-Handshake : goal.returns-in-Handshake
+returns-in-Handshake g c = record {
+  outcome = rw (← c.self.view_is, c.in-Handshake.is)
+      (within (with_ends (the_view (param 0 (number g.row.W)) c.self.inside) Handshake) _ _ _ _ _ _ _ _ _ _ _ _ c.send-in-Handshake.ensures.outcome);
+}
 
-pub returns-in-Initial-clause-refused : goal.returns-in-Initial-clause-refused
-returns-in-Initial-clause-refused g c = rw (← c.self.view_is, c.in-Initial.is) c.send.ensures.refused
-
-pub returns-in-Handshake-clause-used_up : goal.returns-in-Handshake-clause-used_up
-returns-in-Handshake-clause-used_up g c = rw (← c.self.view_is, c.in-Handshake.is) c.send-in-Handshake.ensures.used_up
-
-pub returns-in-Handshake-clause-accepted : goal.returns-in-Handshake-clause-accepted
-returns-in-Handshake-clause-accepted g c = rw (← c.self.view_is, c.in-Handshake.is) c.send-in-Handshake.ensures.accepted
-
-pub returns-in-Handshake-clause-refused : goal.returns-in-Handshake-clause-refused
-returns-in-Handshake-clause-refused g c = rw (← c.self.view_is, c.in-Handshake.is) c.send-in-Handshake.ensures.refused
-
-pub returns-in-OneRtt-clause-used_up : goal.returns-in-OneRtt-clause-used_up
-returns-in-OneRtt-clause-used_up g c = rw (← c.self.view_is, c.in-OneRtt.is) c.send_one_rtt.ensures.used_up
-
-pub returns-in-OneRtt-clause-accepted : goal.returns-in-OneRtt-clause-accepted
-returns-in-OneRtt-clause-accepted g c = rw (← c.self.view_is, c.in-OneRtt.is) c.send_one_rtt.ensures.accepted
-
-pub returns-in-OneRtt-clause-refused : goal.returns-in-OneRtt-clause-refused
-returns-in-OneRtt-clause-refused g c = rw (← c.self.view_is, c.in-OneRtt.is) c.send_one_rtt.ensures.refused
+pub returns-in-OneRtt : goal.returns-in-OneRtt
+returns-in-OneRtt g c = record {
+  outcome = rw (← c.self.view_is, c.in-OneRtt.is)
+      (within (with_ends (the_view (param 0 (number g.row.W)) c.self.inside) OneRtt) _ _ _ _ _ _ _ _ _ _ _ _ c.send_one_rtt.ensures.outcome);
+}

@@ -1,33 +1,43 @@
-use Rattle.std.proofs.Common.{◌≡◌, ◌-◌, refl, sym, subst, arith, false}
-use Rattle.quic_packets.proofs.PartLemmas.{kept, outside, part_of}
-use Rattle.quic_packets.specs.Datagram.{bytes_of, number_in}
-use Rattle.quic_packets.specs.Receiving.{Outcome, Reads, is_of_opened}
+use Rattle.std.proofs.Common.{arith, refl, rules}
+use Rattle.std.proofs.lemmas.Grind.{common_steps}
+use Rattle.std.proofs.lemmas.Result.{err_from_is_err_and}
+use Rattle.quic_packets.proofs.ReceiveLemmas.{admitted, unadmitted, unopened}
 use Rattle.quic_packets.proofs.receiver.Receiver.receive.Goals as goal
 
-pub returns-clause-outcome : goal.returns-clause-outcome
-returns-clause-outcome g c left within own sample =
+pub returns-in_err-admit-in-Ok : goal.returns-in_err-admit-in-Ok
+returns-in_err-admit-in-Ok g c =
     let a = c.args in
-    let p = a.parts.now in
-    let place = c.in_ok-number_at.ensures.place in
-    let it = c.receive_packet.ensures.outcome in
-    let back = part_of p.start p.end a.datagram.now c.receive_packet.new.packet (omega (arith, sample.sampled)) within c.receive_packet.auto.packet in (
-      it.0,
-      it.1,
-      subst (λ k. Reads a.self.now.header a.space.now.next k (bytes_of p a.datagram.now) it.0 it.1) place it.2,
-      subst (λ xs. Outcome a.self.now a.space.now p.start (number_in p) it.0 it.1 c.receive_packet.result c.receive_packet.new.self xs) (sym back)
-          (subst (λ k. Outcome a.self.now a.space.now p.start k it.0 it.1 c.receive_packet.result c.receive_packet.new.self c.receive_packet.new.packet) place
-          it.3),
-    )
+    let at = c.in_ok-number_at.ensures in
+    let opening = c.in-Ok.ensures.opening in
+    let it = c.in_err-admit-in-Ok.ensures in
+    let p = err_from_is_err_and c.from_residual-in_err-admit-in-Ok.result c.from_residual-in_err-admit-in-Ok.ensures.1 in
+    record {
+      outcome = rw (p.1, p.2)
+          (unadmitted a.self.now a.space.now a.failures.now a.parts.now a.datagram.now (at.accepted.0 refl) c.open.new.packet c.open.auto.packet _ _
+          at.place c.largest.ensures opening.0 opening.1 opening.2 c.in-Ok.first c.in-Ok.received opening.3
+          c.in_err-admit-in-Ok.field-0.0 c.admit.new.self c.admit.new.space it.accepted it.refused it.kept);
+    }
 
-pub returns-clause-bytes_kept : goal.returns-clause-bytes_kept
-returns-clause-bytes_kept g c =
-    let p = c.args.parts.now in
-    kept (λ e. is_of_opened e ≡ false) p.start (p.end - p.start) c.args.datagram.now c.receive_packet.new.packet c.receive_packet.result
-    c.receive_packet.ensures.bytes_kept
-
-pub returns-clause-outside : goal.returns-clause-outside
-returns-clause-outside g c =
+pub returns-in_ok-admit-in-Ok : goal.returns-in_ok-admit-in-Ok
+returns-in_ok-admit-in-Ok g c =
     let a = c.args in
-    let fits = c.in_ok-number_at.ensures.accepted.0 refl in
-    outside a.parts.now.start a.parts.now.end a.datagram.now c.receive_packet.new.packet (omega (arith, fits.2.sampled)) fits.0
-    c.receive_packet.auto.packet
+    let at = c.in_ok-number_at.ensures in
+    let opening = c.in-Ok.ensures.opening in
+    let it = c.in_ok-admit-in-Ok.ensures in
+    record {
+      outcome = admitted a.self.now a.space.now a.failures.now a.parts.now a.datagram.now (at.accepted.0 refl) c.open.new.packet c.open.auto.packet _ _
+          at.place c.largest.ensures opening.0 opening.1 opening.2 c.in-Ok.first c.in-Ok.received opening.3
+          c.admit.new.self c.admit.new.space (it.accepted.0 refl) it.moved_on it.marked
+          (c.in-Ok.ensures.payload.0, c.in-Ok.ensures.payload.1, first_of (search rules, grind (arith, common_steps)));
+    }
+
+pub returns-in-Err : goal.returns-in-Err
+returns-in-Err g c =
+    let a = c.args in
+    let at = c.in_ok-number_at.ensures in
+    let opening = c.in-Err.ensures.opening in
+    record {
+      outcome = unopened a.self.now a.space.now a.failures.now a.parts.now a.datagram.now (at.accepted.0 refl) c.open.new.packet c.open.auto.packet _ _
+          at.place c.largest.ensures opening.0 opening.1 opening.2 c.in-Err.error c.count_if_refused.new.self opening.3
+          c.in-Err.ensures.kept (first_of (search rules, grind (arith, common_steps)));
+    }
