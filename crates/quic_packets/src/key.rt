@@ -105,11 +105,24 @@ impl PacketKey {
         if !fits(header_len, payload_len) {
             return Err(SendError::TooLong);
         }
-        let nonce = self.nonce(number).ok_or(SendError::NumbersEnded)?;
+        if number >= NUMBERS_END {
+            return Err(SendError::NumbersEnded);
+        }
+        self.seal_fitting(number, packet, header_len);
+        Ok(())
+    }
+
+    /// Does what `seal` does to a packet that AES-GCM allows, with a number that is left.
+    pub(crate) fn seal_fitting(&self, number: u64, packet: &mut [u8], header_len: usize)
+        requires fits { PacketFits header_len (length packet.old) }
+        requires number { IsNumber number }
+        ensures { packet.new
+            ≡ sealed_packet self.now.bytes (xored_nonce self.now.iv number) header_len packet.old }
+    {
+        let nonce = nonce_of(&self.iv, number);
         let Ok(()) = self.key.seal_packet_in_place(nonce, packet, header_len) else {
             unreachable!();
         };
-        Ok(())
     }
 
     /// Like `seal` for a payload apart from its header, and returns the tag.
@@ -353,9 +366,10 @@ impl PacketKey {
         ensures some { IsSome result ↔ IsNumber number }
         ensures nonce { IfSome result (λ nonce. nonce ≡ xored_nonce self.now.iv number) }
     {
-        if number >= NUMBERS_END {
-            return None;
+        if number < NUMBERS_END {
+            Some(nonce_of(&self.iv, number))
+        } else {
+            None
         }
-        Some(nonce_of(&self.iv, number))
     }
 }

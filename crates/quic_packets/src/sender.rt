@@ -584,9 +584,7 @@ impl Sender {
         self.check_number(number_at, header_len)?;
         let next = self.next;
         write_number(packet, number_at, header_len, next, self.phase);
-        let Ok(()) = self.key.seal(next, packet, header_len) else {
-            unreachable!();
-        };
+        self.key.seal_fitting(next, packet, header_len);
         self.header_key.protect_sampled(packet, number_at);
         self.next += 1;
         self.sealed += 1;
