@@ -33,6 +33,11 @@ in_turn s version key header_key secret number start end e small es ee = rw (e, 
   room = record { some = omega arith; few = omega arith; represents = omega (arith, small) };
 }
 
+-- the key of a new sender may seal a packet
+unused : (s : Sender) (version : Version) (key : PacketKey) (header_key : HeaderKey) (secret : Option QuicSecretState) (number : ℕ)
+    → s ≡ new_sender version key header_key secret number → 0 < s.limit - s.sealed
+unused s version key header_key secret number e = rw e (omega arith)
+
 -- a header of 18 bytes, of which 8 are the ID
 header_long : (id source token len : List ℕ) → length id ≡ 8 → length source ≡ 1 → length token ≡ 1 → length len ≡ 2
     → suc (suc (suc (suc (suc (suc (length (id ++ source ++ token ++ len))))))) ≡ 18
@@ -85,7 +90,8 @@ returns-in_err-send-clause-accepted c =
       not_both _ c.from_residual-in_err-send.ensures.0,
       λ small.
           let never : false ≡ true =
-          c.in_err-send.ensures.accepted.1 (
+          c.in_err-send.ensures.outcome.accepted.1 (
+            unused _ _ _ _ _ _ c.in_ok-sender.ensures.made,
             sealable _ (take end buffer ++ after) _ _ _ version_is begins size start_is end_is,
             in_turn _ _ _ _ _ _ _ _ c.in_ok-sender.ensures.made small start_is end_is,
           ) in
@@ -114,4 +120,4 @@ returns-clause-sent c =
     let sender_is =
     c.in_ok-sender.ensures.made
     ∙ ap (λ (s : QuicSecretState). new_sender s.version (secret_key s) (secret_header_key s) (Some s) c.args.number) c.in_ok-secret.ensures.made in
-    same_sent sender_is start_is end_is packet_is c.in_ok-send.ensures.sent
+    same_sent sender_is start_is end_is packet_is c.in_ok-send.ensures.outcome.sent
