@@ -2,6 +2,8 @@
 use Rattle.std.proofs.Common.{◌≡◌, ◌≤◌, ◌+◌, ℕ, false, List, [], ◌∷◌, ◌++◌, length, take, drop, ◌-◌, ap, sym, subst, ◌∙◌, refl, arith, drop-drop, length-drop, append_assoc, inl, inr, true≢false, IsFalse, Ok, Err}
 use Rattle.std.proofs.lemmas.Bool.{cases_lt, false_from_ne_true}
 use Rattle.std.proofs.lemmas.List.{take_rest}
+use Rattle.std.proofs.lemmas.Slice.{between-put_mid, drop-put_mid}
+use borrow.Rule.Slice.PartMut.{put_mid}
 use Rattle.std.specs.Prelude.{is_ok}
 use Rattle.std.specs.List.{concat}
 use Rattle.records.specs.Connection.{Fails, FailsToBring, LeavesRecord, Receiving, Rejects, Step}
@@ -173,17 +175,19 @@ rejects_header capacity stream buffer first was at refusal taken same refuses = 
   front = inl (refusal, refl, subst (λ t. RefusesProtected t refusal) (rest_of stream buffer at same) refuses, refl, same);
 }
 
-pub rejects_record : (capacity more : ℕ) (stream buffer left : List ℕ) (first was now : Receiving) (at len : ℕ) (error : ReceiveError)
-    → Taken Step stream first at was → drop at buffer ≡ drop at stream
+pub rejects_record : (capacity more : ℕ) (stream buffer mid : List ℕ) (first was now : Receiving) (at len : ℕ) (error : ReceiveError)
+    → Taken Step stream first at was → drop at buffer ≡ drop at stream → at ≤ length buffer
     → BeginsProtected (take (length buffer - at) (drop at buffer)) len → capacity ≤ more
     → Fails more was (take (at + len - at) (drop at buffer)) error now
-    → LeavesRecord was (take (at + len - at) (drop at buffer)) (take (at + len - at) (drop at left)) error
-    → drop (at + len) left ≡ drop (at + len) buffer → Rejects capacity stream left first error now
-rejects_record capacity more stream buffer left first was now at len error taken same begins order fails leaves kept =
+    → LeavesRecord was (take (at + len - at) (drop at buffer)) mid error → length mid ≡ at + len - at
+    → Rejects capacity stream (put_mid at (at + len - at) buffer mid) first error now
+rejects_record capacity more stream buffer mid first was now at len error taken same within begins order fails leaves size =
     let back : at + len - at ≡ len = omega arith in
     let bytes : take (at + len - at) (drop at buffer) ≡ take len (drop at stream)
     = ap (λ n. take n (drop at buffer)) back ∙ ap (take len) same in
-    let there : take (at + len - at) (drop at left) ≡ take len (drop at left) = ap (λ n. take n (drop at left)) back in
+    let left : List ℕ = put_mid at (at + len - at) buffer mid in
+    let there : mid ≡ take len (drop at left) =
+    sym (between-put_mid at (at + len - at) buffer mid (at + len) within size) ∙ ap (λ n. take n (drop at left)) back in
     record {
       at = at;
       was = was;
@@ -192,9 +196,9 @@ rejects_record capacity more stream buffer left first was now at len error taken
         len,
         subst (λ t. BeginsProtected t len) (rest_of stream buffer at same) begins,
         subst (λ t. Fails capacity was t error now) bytes (fails_more more capacity was now _ error order fails),
-        subst (λ t. LeavesRecord was (take len (drop at stream)) t error) there
-            (subst (λ t. LeavesRecord was t (take (at + len - at) (drop at left)) error) bytes leaves),
-        drop-drop len at left ∙ kept ∙ sym (drop-drop len at buffer) ∙ ap (drop len) same,
+        subst (λ t. LeavesRecord was (take len (drop at stream)) t error) there (subst (λ t. LeavesRecord was t mid error) bytes leaves),
+        drop-drop len at left ∙ drop-put_mid at (at + len - at) buffer mid (at + len) (omega (arith, back)) within size
+            ∙ sym (drop-drop len at buffer) ∙ ap (drop len) same,
       );
     }
 

@@ -47,13 +47,19 @@ module _ (key : KeyState) (number : ℕ) (content_type : ContentType) (room padd
   abbrev pub first_records : ℕ → List ℕ
   first_records i = concat (consecutive_records key number (map inner_at (range_with_len 0 i)))
 
-  pub one_more : (i : ℕ) → first_records (i + 1) ≡ first_records i ++ record_at key (number + i) (inner_at i)
+  one_more : (i : ℕ) → first_records (i + 1) ≡ first_records i ++ record_at key (number + i) (inner_at i)
   one_more i =
       ap (λ xs. concat (consecutive_records key number xs)) (map-range_with_len_more inner_at 0 i i (zero-add i))
       ∙ more_records key number (map inner_at (range_with_len 0 i)) (inner_at i)
       ∙ ap (λ n. first_records i ++ record_at key (number + n) (inner_at i)) (length-map-range_with_len inner_at 0 i)
 
-  -- a record that is written behind the first i
+  -- a record that is appended behind the first i, and one that is written behind them
+  pub more_appended : (i : ℕ) (old was now : List ℕ) → was ≡ old ++ first_records i → now ≡ was ++ record_at key (number + i) (inner_at i)
+      → now ≡ old ++ first_records (i + 1)
+  more_appended i old was now before appended =
+      appended ∙ ap (λ xs. xs ++ record_at key (number + i) (inner_at i)) before
+      ∙ append_assoc old (first_records i) (record_at key (number + i) (inner_at i)) ∙ ap (λ xs. old ++ xs) (sym (one_more i))
+
   pub more_sealed : (i : ℕ) (before was now : List ℕ) (filled end : ℕ) → was ≡ first_records i ++ drop filled before
       → filled ≡ length (first_records i) → end ≡ filled + length (inner_at i).content + padding + 22
       → now ≡ take filled was ++ (record_at key (number + i) (inner_at i) ++ drop end was)
@@ -146,23 +152,15 @@ module _ (size_limit padding : ℕ) (content : List ℕ) (i : ℕ) where
       let same = length-piece most content i in
       record { nonempty = λ _. refl; alert = λ wrong. cc; fits = omega arith }
 
--- the next piece fits in the rest
-pub piece_fits : (n room count padding i filled len total : ℕ) → i < count → len ≡ min room (n - i * room)
-    → filled + (n - i * room) + (count - i) * (padding + 22) ≡ n + count * (padding + 22) → n + count * (padding + 22) ≤ total
-    → filled + len + padding + 22 ≤ total
-piece_fits n room count padding i filled len total more len_is left fits =
-    let one : 1 * (padding + 22) ≤ (count - i) * (padding + 22) = mul-le 1 (padding + 22) (count - i) (padding + 22) (omega arith) (omega arith) in
-    omega (arith, one, len_is, left, fits)
+-- the length of the first i records, of which each has q bytes beside its piece
+abbrev pub first_len : (room n q i : ℕ) → ℕ
+first_len room n q i = min (i * room) n + i * q
 
--- what is left after a piece
-pub left_more : (n room count q i filled len : ℕ) → i < count → len ≡ min room (n - i * room)
-    → filled + (n - i * room) + (count - i) * q ≡ n + count * q
-    → (filled + len + q) + (n - (i + 1) * room) + (count - (i + 1)) * q ≡ n + count * q
-left_more n room count q i filled len lt same left =
-    let next = add-mul i 1 room in
-    let fewer : (count - i) * q ≡ (count - (i + 1)) * q + 1 * q =
-    ap (λ k. k * q) (omega arith) ∙ add-mul (count - (i + 1)) 1 q in
-    omega arith
+pub one_longer : (room n q i len : ℕ) → len ≡ min room (n - i * room) → first_len room n q (i + 1) ≡ first_len room n q i + len + q
+one_longer room n q i len is = omega (arith, is, add-mul i 1 room, add-mul i 1 q)
+
+pub within_all : (room n count q i : ℕ) → i ≤ count → first_len room n q i ≤ n + count * q
+within_all room n count q i le = omega (arith, mul-le i q count q le (omega arith))
 
 -- ---- laws
 

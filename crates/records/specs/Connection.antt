@@ -1,7 +1,8 @@
 -- One end of a TLS 1.3 connection after the handshake (RFC 8446 sections 4.6.3, 5.1, 5.5, 6 and 7.2).
 use Rattle.std.specs.Prelude.{◌≡◌, ◌≢◌, ◌⊎◌, ℕ, ◌+◌, ◌-◌, ◌^◌, ◌<◌, ◌≤◌, ◌==◌, length, min, Bool, true, false, cond, nat_lt, ◌||◌, IsFalse, IsTrue, List, [], ◌∷◌, ◌++◌}
 use Rattle.std.specs.Prelude.{take, drop, map, slice_index, Ok, Err}
-use Rattle.records.specs.Content.{after_content, piece_room, record_count}
+use Rattle.std.specs.List.{concat}
+use Rattle.records.specs.Content.{after_content, piece_room, record_count, records_len, records_of}
 use Rattle.records.specs.Handling.{Handled, HandlesAll, RejectsAlert, RejectsData, RejectsMessages}
 use Rattle.records.specs.Keys.{ReaderState, WriterState, next_writer}
 use Rattle.records.specs.Record.{Inner, record_at}
@@ -16,7 +17,7 @@ use Rattle.records.specs.declared.connection.receiving.Received.{Received}
 use Rattle.records.specs.declared.content_type.ContentType.{ContentType}
 use Rattle.records.specs.declared.content_type.ContentType.TheVariants.{Alert, ApplicationData, Handshake}
 use Rattle.records.specs.declared.record_error.RecordError.{RecordError}
-use Rattle.records.specs.declared.record_error.RecordError.TheVariants.{EmptyContent, MessageLength, MessageType, OutOfMemory}
+use Rattle.records.specs.declared.record_error.RecordError.TheVariants.{ContentTooLong, EmptyContent, Ended, KeyUsedUp, MessageLength, MessageType, OutOfMemory}
 use Rattle.tls_messages.specs.Messages.{Joining, may_send_all, messages_of, part_of}
 use Rattle.tls_messages.specs.declared.stage.Stage.{Stage}
 
@@ -98,6 +99,17 @@ before_content was records = cond (updates_before was records) (key_updated was)
 abbrev pub records_before : ConnectionState → (records : ℕ) → List ℕ
 records_before was records = cond (updates_before was records) (update_record was.writer NotRequested) []
 
+-- what an end sends for a content with this padding in each record: a KeyUpdate, if one comes before it, and the records of the content
+abbrev pub sent_for : ConnectionState → ContentType → (padding : ℕ) → List ℕ → List ℕ
+sent_for was content_type padding content =
+    let records = content_records was.writer padding (length content) in
+    records_before was records ++ concat (records_of (before_content was records).writer content_type padding content)
+
+-- the length of what is sent for n bytes: a KeyUpdate is a record of 27 bytes
+abbrev pub sent_len : ConnectionState → (padding n : ℕ) → ℕ
+sent_len was padding n = cond (updates_before was (content_records was.writer padding n)) 27 0
+    + records_len was.writer.key.size_limit padding n
+
 -- the end that has sent n bytes of content with this padding in each record
 abbrev pub after_send : ConnectionState → (padding n : ℕ) → ConnectionState
 after_send was padding n =
@@ -110,6 +122,23 @@ pub record MaySend (was : ConnectionState) (records : ℕ) : Type 0 where
   pub fits : records ≤ content_limit was.writer
   pub update : IsTrue (updates_before was records) → MayUpdate was.writer
 
+-- an end sends n bytes of content with this padding in each record: it has not sent its last record, and it may send so many
+abbrev pub IsSendable : ConnectionState → (padding n : ℕ) → Type 0
+IsSendable was padding n = IsFalse was.is_closed × MaySend was (content_records was.writer padding n)
+
+-- why it doesn't append their records to a `Vec` that has room for `spare` bytes more
+abbrev pub RefusesToSend : ConnectionState → (padding n spare : ℕ) → RecordError → Type 0
+RefusesToSend was padding n spare Ended = IsTrue was.is_closed
+RefusesToSend was padding n spare KeyUsedUp = IsFalse was.is_closed × ¬ MaySend was (content_records was.writer padding n)
+RefusesToSend was padding n spare OutOfMemory = IsSendable was padding n × (spare < sent_len was padding n)
+RefusesToSend was padding n spare error = ⊥
+
+-- why it doesn't, where the padding may leave no room for a byte of the content
+abbrev pub RefusesToSendPadded : ConnectionState → (padding n spare : ℕ) → RecordError → Type 0
+RefusesToSendPadded was padding n spare Ended = IsTrue was.is_closed
+RefusesToSendPadded was padding n spare ContentTooLong = IsFalse was.is_closed × ¬ HasRoom was.writer padding n
+RefusesToSendPadded was padding n spare error = HasRoom was.writer padding n × RefusesToSend was padding n spare error
+
 -- these bytes are whole handshake messages that may be sent in a row (sections 4.6 and 5.1)
 pub record AreSendable (stage : Stage) (messages : List ℕ) : Type 0 where
   pub some : messages ≢ []
@@ -117,11 +146,20 @@ pub record AreSendable (stage : Stage) (messages : List ℕ) : Type 0 where
   pub all : IsTrue (may_send_all stage (messages_of messages))
 
 -- why they are not
-abbrev pub RefusesToSend : Stage → (messages : List ℕ) → RecordError → Type 0
-RefusesToSend stage messages EmptyContent = messages ≡ []
-RefusesToSend stage messages MessageLength = part_of messages ≢ []
-RefusesToSend stage messages MessageType = (part_of messages ≡ []) × IsFalse (may_send_all stage (messages_of messages))
-RefusesToSend stage messages error = ⊥
+abbrev pub RefusesMessages : Stage → (messages : List ℕ) → RecordError → Type 0
+RefusesMessages stage messages EmptyContent = messages ≡ []
+RefusesMessages stage messages MessageLength = part_of messages ≢ []
+RefusesMessages stage messages MessageType = (part_of messages ≡ []) × IsFalse (may_send_all stage (messages_of messages))
+RefusesMessages stage messages error = ⊥
+
+-- why an end doesn't append handshake messages
+abbrev pub RefusesToSendMessages : ConnectionState → (messages : List ℕ) → (spare : ℕ) → RecordError → Type 0
+RefusesToSendMessages was messages spare Ended = IsTrue was.is_closed
+RefusesToSendMessages was messages spare KeyUsedUp =
+    AreSendable was.stage messages × RefusesToSend was 0 (length messages) spare KeyUsedUp
+RefusesToSendMessages was messages spare OutOfMemory =
+    AreSendable was.stage messages × RefusesToSend was 0 (length messages) spare OutOfMemory
+RefusesToSendMessages was messages spare error = IsFalse was.is_closed × RefusesMessages was.stage messages error
 
 -- the KeyUpdate that is owed comes before another
 abbrev pub after_answer : ConnectionState → ConnectionState
@@ -130,11 +168,19 @@ after_answer was = cond was.owes_update (key_updated was) was
 abbrev pub answer_of : ConnectionState → List ℕ
 answer_of was = cond was.owes_update (update_record was.writer NotRequested) []
 
--- what an end that fails to send leaves: all as it was or, for lack of memory for what comes after a KeyUpdate, this KeyUpdate sent
-abbrev pub LeavesUnsent : (updates : Bool) → (was now : ConnectionState) → (old new : List ℕ) → RecordError → Type 0
-LeavesUnsent updates was now old new OutOfMemory = ((now ≡ was) × (new ≡ old))
-    ⊎ (IsTrue updates × (now ≡ key_updated was) × (new ≡ old ++ update_record was.writer NotRequested))
-LeavesUnsent updates was now old new error = (now ≡ was) × (new ≡ old)
+-- why an end appends no KeyUpdate
+abbrev pub RefusesToUpdate : ConnectionState → (spare : ℕ) → RecordError → Type 0
+RefusesToUpdate was spare Ended = IsTrue was.is_closed
+RefusesToUpdate was spare KeyUsedUp = IsFalse was.is_closed × ¬ MayUpdate was.writer
+RefusesToUpdate was spare OutOfMemory = IsFalse was.is_closed × MayUpdate was.writer × (spare < cond was.owes_update 27 0 + 27)
+RefusesToUpdate was spare error = ⊥
+
+-- why an end appends no alert
+abbrev pub RefusesToAlert : ConnectionState → (spare : ℕ) → RecordError → Type 0
+RefusesToAlert was spare Ended = IsTrue was.is_closed
+RefusesToAlert was spare KeyUsedUp = IsFalse was.is_closed × (was.writer.limit ≤ was.writer.number)
+RefusesToAlert was spare OutOfMemory = IsFalse was.is_closed × (was.writer.number < was.writer.limit) × (spare < 24)
+RefusesToAlert was spare error = ⊥
 
 -- an end that has sent an alert, after which it sends nothing (sections 6.1 and 6.2)
 abbrev pub after_alert : ConnectionState → ConnectionState

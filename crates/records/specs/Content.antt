@@ -1,5 +1,5 @@
 -- A content of any length, as the contents of as many records as it takes (RFC 8446 section 5.1).
-use Rattle.std.specs.Prelude.{ℕ, zero, ◌+◌, ◌*◌, ◌-◌, ◌<◌, ◌≤◌, min, List, [], ◌∷◌, length, take, drop, map}
+use Rattle.std.specs.Prelude.{◌≡◌, ℕ, zero, ◌+◌, ◌*◌, ◌-◌, ◌^◌, ◌<◌, ◌≤◌, min, List, [], ◌∷◌, length, take, drop, map}
 use Rattle.std.specs.Int.{div_ceil}
 use Rattle.std.specs.List.{range_with_len}
 use Rattle.records.specs.Keys.{KeyState, WriterState}
@@ -8,7 +8,8 @@ use Rattle.records.specs.Refusals.{RefusesContent}
 use Rattle.records.specs.declared.content_type.ContentType.{ContentType}
 use Rattle.records.specs.declared.content_type.ContentType.TheVariants.{Alert}
 use Rattle.records.specs.declared.record_error.RecordError.{RecordError}
-use Rattle.records.specs.declared.record_error.RecordError.TheVariants.{KeyUsedUp, NoRoom}
+use Rattle.records.specs.declared.record_error.RecordError.TheVariants.{KeyUsedUp, NoRoom, OutOfMemory}
+use Rattle.records.specs.declared.writer.content.Cut.{Cut}
 
 -- the least that a record has of a content of n bytes: the whole of an alert, which is never cut, and otherwise a byte, if there is
 -- one (sections 5.1 and 5.4)
@@ -51,6 +52,12 @@ abbrev pub after_content : WriterState → (padding n : ℕ) → WriterState
 after_content writer padding n =
     record writer { number = writer.number + record_count (piece_room writer.key.size_limit padding) n }
 
+-- how n bytes of content are cut, with this padding in each record, by a size limit of at most 2^14 + 1 (section 5.4)
+pub record IsCut (size_limit padding n : ℕ) (cut : Cut) : Type 0 where
+  pub limit : size_limit ≤ 2 ^ 14 + 1
+  pub room : cut.room ≡ piece_room size_limit padding
+  pub count : cut.count ≡ record_count (piece_room size_limit padding) n
+
 -- the length of the records of n bytes of content
 abbrev pub records_len : (size_limit padding n : ℕ) → ℕ
 records_len size_limit padding n = n + record_count (piece_room size_limit padding) n * (padding + 22)
@@ -74,3 +81,9 @@ abbrev pub RefusesToSealAll : WriterState → ContentType → (n padding room : 
 RefusesToSealAll writer content_type n padding room NoRoom =
     IsWritable writer content_type n padding × (room < records_len writer.key.size_limit padding n)
 RefusesToSealAll writer content_type n padding room error = RefusesToWrite writer content_type n padding error
+
+-- why it may not append it to a `Vec` that has room for `spare` bytes more
+abbrev pub RefusesToWriteAll : WriterState → ContentType → (n padding spare : ℕ) → RecordError → Type 0
+RefusesToWriteAll writer content_type n padding spare OutOfMemory =
+    IsWritable writer content_type n padding × (spare < records_len writer.key.size_limit padding n)
+RefusesToWriteAll writer content_type n padding spare error = RefusesToWrite writer content_type n padding error

@@ -1,5 +1,6 @@
 -- The definitions that the contracts use.
 pub mod Alerts
+pub mod Appending
 pub mod Connection
 pub mod Content
 pub mod EarlyData

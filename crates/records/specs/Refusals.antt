@@ -1,15 +1,16 @@
 -- The reasons for each error, and the alert that an error calls for.
-use Rattle.std.specs.Prelude.{◌≡◌, ◌≢◌, ◌⊎◌, ℕ, ◌+◌, ◌^◌, ◌<◌, ◌≤◌, List, [], length, take, replicate, Option, Some, None}
-use Rattle.records.specs.Keys.{KeyState}
+use Rattle.std.specs.Prelude.{◌≡◌, ◌≢◌, ◌⊎◌, ℕ, ◌+◌, ◌^◌, ◌<◌, ◌≤◌, List, [], length, take, replicate, Option, Some, None, IsFalse, IsNone, IsSome, IsTrue}
+use Rattle.aead_ciphers.specs.Algorithm.{key_len}
+use Rattle.records.specs.Keys.{HasKey, KeyState, ReaderState, WriterState}
 use Rattle.records.specs.Record.{IsAllowed, IsHeader, IsUnknown, IsWhole, Seals, body_len, plaintext, record_start, type_code}
 use Rattle.records.specs.declared.content_type.ContentType.{ContentType}
 use Rattle.records.specs.declared.content_type.ContentType.TheVariants.{Alert, ApplicationData}
 use Rattle.tls_messages.specs.declared.alert.AlertDescription.{AlertDescription}
 use Rattle.tls_messages.specs.declared.alert.AlertDescription.TheVariants.{BadRecordMac, DecodeError, IllegalParameter, RecordOverflow, UnexpectedMessage}
 use Rattle.records.specs.declared.record_error.RecordError.{RecordError}
-use Rattle.records.specs.declared.record_error.RecordError.TheVariants.{AlertLength, ContentTooLong, EmptyContent, EncryptedRecordTooLong}
-use Rattle.records.specs.declared.record_error.RecordError.TheVariants.{EncryptedRecordTooShort, InnerPlaintextTooLong, NoContentType}
-use Rattle.records.specs.declared.record_error.RecordError.TheVariants.{NoRoom, PeerSizeLimit, PlaintextTooLong, Refused, TooMuchEarlyData, UnexpectedRecord}
+use Rattle.records.specs.declared.record_error.RecordError.TheVariants.{AlertLength, Closed, ContentTooLong, EmptyContent, EncryptedRecordTooLong}
+use Rattle.records.specs.declared.record_error.RecordError.TheVariants.{EncryptedRecordTooShort, HasSecret, InnerPlaintextTooLong, KeyLength, KeyUsedUp, NoContentType}
+use Rattle.records.specs.declared.record_error.RecordError.TheVariants.{NoRoom, OutOfMemory, PeerSizeLimit, PlaintextTooLong, Refused, SameKey, TooMuchEarlyData, UnexpectedRecord}
 use Rattle.records.specs.declared.record_error.RecordError.TheVariants.{UnexpectedType, WrongLength}
 
 -- the alert that ends the connection when a record is rejected (sections 4.6.1, 5, 5.1, 5.2, 5.4 and 6.2), or a size limit (RFC 8449
@@ -42,6 +43,20 @@ abbrev pub RefusesToSeal : (size_limit : ℕ) → ContentType → (n padding roo
 RefusesToSeal size_limit content_type n padding room NoRoom =
     IsAllowed size_limit content_type n padding × (room < n + padding + 22)
 RefusesToSeal size_limit content_type n padding room error = RefusesContent size_limit content_type n padding error
+
+-- why a writer makes no record of them in such a buffer
+abbrev pub RefusesToSealNext : WriterState → ContentType → (n padding room : ℕ) → RecordError → Type 0
+RefusesToSealNext writer content_type n padding room KeyUsedUp = writer.limit ≤ writer.number
+RefusesToSealNext writer content_type n padding room error =
+    (writer.number < writer.limit) × RefusesToSeal writer.key.size_limit content_type n padding room error
+
+-- why a writer appends no record of them to a `Vec` that has room for `spare` bytes more
+abbrev pub RefusesToWriteNext : WriterState → ContentType → (n padding spare : ℕ) → RecordError → Type 0
+RefusesToWriteNext writer content_type n padding spare KeyUsedUp = writer.limit ≤ writer.number
+RefusesToWriteNext writer content_type n padding spare OutOfMemory =
+    (writer.number < writer.limit) × IsAllowed writer.key.size_limit content_type n padding × (spare < n + padding + 22)
+RefusesToWriteNext writer content_type n padding spare error =
+    (writer.number < writer.limit) × RefusesContent writer.key.size_limit content_type n padding error
 
 -- why the length of an encrypted record is rejected. 2^14 + 256 bytes is the limit of section 5.2 for any cipher; `size_limit` bounds
 -- the inner plaintext, so its tag adds 16 bytes
@@ -95,3 +110,19 @@ RefusesToOpen key number bytes error = RefusesBytes key.size_limit bytes error
 abbrev pub RefusesToOpenTo : (size_limit : ℕ) → List ℕ → RecordError → Type 0
 RefusesToOpenTo size_limit bytes NoRoom = IsWhole size_limit bytes
 RefusesToOpenTo size_limit bytes error = RefusesBytes size_limit bytes error
+
+-- why a writer doesn't continue under this key and this IV
+abbrev pub RefusesWriteKey : WriterState → (key iv : List ℕ) → RecordError → Type 0
+RefusesWriteKey writer key iv HasSecret = IsSome writer.secret
+RefusesWriteKey writer key iv SameKey = IsNone writer.secret × HasKey writer.key key iv
+RefusesWriteKey writer key iv KeyLength =
+    IsNone writer.secret × (¬ HasKey writer.key key iv) × (length key ≢ key_len writer.key.algorithm)
+RefusesWriteKey writer key iv error = ⊥
+
+-- why a reader doesn't continue under this key
+abbrev pub RefusesReadKey : ReaderState → (key : List ℕ) → RecordError → Type 0
+RefusesReadKey reader key Closed = IsTrue reader.is_closed
+RefusesReadKey reader key HasSecret = IsFalse reader.is_closed × IsSome reader.secret
+RefusesReadKey reader key KeyLength =
+    IsFalse reader.is_closed × IsNone reader.secret × (length key ≢ key_len reader.key.algorithm)
+RefusesReadKey reader key error = ⊥

@@ -1,9 +1,10 @@
 //! Alerts that an endpoint sends (RFC 8446 section 6).
 
-ghost use Rattle.std.specs.Prelude.{◌≡◌, ◌+◌, ◌<◌, ◌≤◌, ◌++◌, vec_len, vec_capacity, IsOkUnless, IsErrOf, IfErr, OnOk, OnErr};
+ghost use Rattle.std.specs.Prelude.{◌≡◌, ◌+◌, ◌<◌};
 ghost use Rattle.records.specs.Alerts.{close_notify, fatal_content, plaintext_alert_record};
+ghost use Rattle.records.specs.Appending.{AppendOutcome};
 ghost use Rattle.records.specs.Record.{IsAllowed, record_at};
-ghost use Rattle.records.specs.Refusals.{RefusesContent};
+ghost use Rattle.records.specs.Refusals.{RefusesToWriteNext};
 
 use crate::content_type::ContentType;
 use crate::record_error::RecordError;
@@ -36,23 +37,10 @@ impl Writer {
     ///
     /// Fails as `write` does, and then appends nothing and uses no number.
     pub fn close_notify(&mut self, out: &mut Vec<u8>) -> Result<(), RecordError>
-        ensures accepted { OnOk result ((self.old.number < self.old.limit)
-            × IsAllowed self.old.key.size_limit ContentType.Alert 2 0) }
-        ensures ended { self.old.limit ≤ self.old.number
-            → IsErrOf result RecordError.KeyUsedUp }
-        ensures refused { self.old.number < self.old.limit
-            → ¬ IsAllowed self.old.key.size_limit ContentType.Alert 2 0
-            → IfErr result (RefusesContent self.old.key.size_limit ContentType.Alert 2 0) }
-        ensures memory { self.old.number < self.old.limit
-            → IsAllowed self.old.key.size_limit ContentType.Alert 2 0
-            → IsOkUnless result RecordError.OutOfMemory }
-        ensures room { IsErrOf result RecordError.OutOfMemory
-            → vec_capacity out.old < vec_len out.old + 24 }
-        ensures written { OnOk result (out.new.items ≡ out.old.items
-            ++ record_at self.old.key self.old.number close_notify) }
-        ensures counted { OnOk result
-            (self.new ≡ record self.old { number = self.old.number + 1 }) }
-        ensures kept { OnErr result ((self.new ≡ self.old) × (out.new.items ≡ out.old.items)) }
+        ensures outcome { AppendOutcome ((self.old.number < self.old.limit)
+            × IsAllowed self.old.key.size_limit ContentType.Alert 2 0)
+            (RefusesToWriteNext self.old ContentType.Alert 2 0) (record_at self.old.key self.old.number close_notify)
+            out.old out.new result self.old self.new (record self.old { number = self.old.number + 1 }) }
     {
         self.write(ContentType::Alert, &CLOSE_NOTIFY, 0, out)
     }

@@ -1,20 +1,21 @@
 //! One end of a TLS 1.3 connection after the handshake: what it receives, over the peer's key updates, and what it sends, over
 //! its own.
 
-ghost use Rattle.std.specs.Prelude.{◌≡◌, ◌≢◌, ◌↔◌, [], ◌+◌, ◌<◌, ◌≤◌, ◌++◌, length, drop, IsTrue, IsFalse, IsErrOf, IsOkUnless, IfOk, IfErr, OnOk, OnErr, cond, vec_len, vec_capacity};
-ghost use Rattle.std.specs.List.{concat};
+ghost use Rattle.std.specs.Prelude.{◌≡◌, ◌≢◌, ◌↔◌, [], ◌+◌, ◌<◌, ◌≤◌, ◌++◌, length, drop, IsTrue, IsFalse, IsErrOf, IsOk, IsOkUnless, IfOk, IfErr, cond, vec_len, vec_capacity};
 ghost use Rattle.records.specs.Alerts.{close_notify, fatal_record};
-ghost use Rattle.records.specs.Connection.{AreSendable, EndsWith, HasRoom, LeavesUnsent, MaySend, MayUpdate, RefusesToSend, Step};
-ghost use Rattle.records.specs.Connection.{after_alert, after_answer, after_send, answer_of, before_content, content_left, content_limit, content_records, key_update, key_updated, new_connection, received_by, records_before, update_record, updates_before};
-ghost use Rattle.records.specs.Content.{least_piece, records_len, records_of};
-ghost use Rattle.records.specs.Keys.{IsOfSecret, next_writer};
+ghost use Rattle.records.specs.Appending.{AppendOutcome, Appended};
+ghost use Rattle.records.specs.Connection.{AreSendable, EndsWith, HasRoom, IsSendable, MaySend, MayUpdate, RefusesToAlert, RefusesToSend, RefusesToSendMessages, RefusesToSendPadded, RefusesToUpdate, Step};
+ghost use Rattle.records.specs.Connection.{after_alert, after_answer, after_send, answer_of, content_left, key_update, key_updated, new_connection, received_by, sent_for, update_record, updates_before};
+ghost use Rattle.records.specs.Content.{least_piece, records_len};
+ghost use Rattle.records.specs.Keys.{IsOfSecret};
 ghost use Rattle.records.specs.Record.{IsAllowed, record_at};
 ghost use Rattle.records.specs.Stream.{NeedsMore, Taken};
 
 mod receive_error;
 mod receiving;
 
-use crate::alert::fatal_alert;
+use crate::RECORD_OVERHEAD;
+use crate::alert::{ALERT_LEN, CLOSE_NOTIFY, fatal_alert};
 use crate::content_type::ContentType;
 use crate::reader::Reader;
 use crate::record_error::RecordError;
@@ -29,6 +30,9 @@ use tls_messages::{AlertDescription, KEY_UPDATE_LEN, MessageReader, Stage};
 
 /// The numbers of each key that are kept: one for a KeyUpdate, and the last for an alert.
 const KEPT: u64 = 2;
+
+/// The length in bytes of the record of a KeyUpdate.
+const UPDATE_LEN: usize = KEY_UPDATE_LEN + RECORD_OVERHEAD;
 
 /// Whether a KeyUpdate asks the peer for one in turn (RFC 8446 section 4.6.3). `as u8` gives its value.
 #[derive(Clone, Copy, Debug, PartialEq, Eq)]
@@ -265,32 +269,14 @@ impl<'b> Connection<'b> {
     /// Appends the records of application data of any length to `out`, and before them, under the old key, a KeyUpdate that asks
     /// for none, if the peer has asked for one or if the content has more records than `remaining`.
     ///
-    /// Fails with `Ended` after `close` or `abort`, and with `KeyUsedUp` if the content has more records than a fresh key has
-    /// numbers for, all but two of its limit, or if a KeyUpdate is to come first and not even its number is left. Nothing is then
-    /// written. Fails with `OutOfMemory` only if the capacity of `out` is too small; then either nothing is written, or the whole
-    /// KeyUpdate alone, which is then no longer owed.
+    /// Fails with `Ended` after `close` or `abort`; with `KeyUsedUp` if the content has more records than a fresh key has numbers
+    /// for, all but two of its limit, or if a KeyUpdate is to come first and not even its number is left; and with `OutOfMemory`
+    /// only if the capacity of `out` is too small. Nothing is then written.
     pub fn send(&mut self, content: &[u8], out: &mut Vec<u8>) -> Result<(), RecordError>
-        ensures accepted { OnOk result (IsFalse self.old.is_closed
-            × MaySend self.old (content_records self.old.writer 0 (length content.now))) }
-        ensures closed { IsTrue self.old.is_closed → IsErrOf result RecordError.Ended }
-        ensures used_up { IsFalse self.old.is_closed
-            → ¬ MaySend self.old (content_records self.old.writer 0 (length content.now))
-            → IsErrOf result RecordError.KeyUsedUp }
-        ensures memory { IsFalse self.old.is_closed
-            → MaySend self.old (content_records self.old.writer 0 (length content.now))
-            → IsOkUnless result RecordError.OutOfMemory }
-        ensures room { IsErrOf result RecordError.OutOfMemory → vec_capacity out.old < vec_len out.old
-            + cond (updates_before self.old (content_records self.old.writer 0 (length content.now))) 27 0
-            + records_len self.old.writer.key.size_limit 0 (length content.now) }
-        ensures sent { OnOk result (out.new.items ≡ out.old.items
-            ++ records_before self.old (content_records self.old.writer 0 (length content.now))
-            ++ concat (records_of
-            (before_content self.old (content_records self.old.writer 0 (length content.now))).writer
-            ContentType.ApplicationData 0 content.now)) }
-        ensures counted { OnOk result (self.new ≡ after_send self.old 0 (length content.now)) }
-        ensures kept { IfErr result (LeavesUnsent
-            (updates_before self.old (content_records self.old.writer 0 (length content.now)))
-            self.old self.new out.old.items out.new.items) }
+        ensures outcome { AppendOutcome (IsSendable self.old 0 (length content.now))
+            (RefusesToSend self.old 0 (length content.now))
+            (sent_for self.old ContentType.ApplicationData 0 content.now) out.old out.new result
+            self.old self.new (after_send self.old 0 (length content.now)) }
     {
         if self.is_closed {
             return Err(RecordError::Ended);
@@ -309,33 +295,11 @@ impl<'b> Connection<'b> {
         padding: usize,
         out: &mut Vec<u8>,
     ) -> Result<(), RecordError>
-        ensures accepted { OnOk result (IsFalse self.old.is_closed
-            × HasRoom self.old.writer padding (length content.now)
-            × MaySend self.old (content_records self.old.writer padding (length content.now))) }
-        ensures closed { IsTrue self.old.is_closed → IsErrOf result RecordError.Ended }
-        ensures too_long { IsFalse self.old.is_closed
-            → ¬ HasRoom self.old.writer padding (length content.now)
-            → IsErrOf result RecordError.ContentTooLong }
-        ensures used_up { IsFalse self.old.is_closed
-            → HasRoom self.old.writer padding (length content.now)
-            → ¬ MaySend self.old (content_records self.old.writer padding (length content.now))
-            → IsErrOf result RecordError.KeyUsedUp }
-        ensures memory { IsFalse self.old.is_closed
-            → HasRoom self.old.writer padding (length content.now)
-            → MaySend self.old (content_records self.old.writer padding (length content.now))
-            → IsOkUnless result RecordError.OutOfMemory }
-        ensures room { IsErrOf result RecordError.OutOfMemory → vec_capacity out.old < vec_len out.old
-            + cond (updates_before self.old (content_records self.old.writer padding (length content.now))) 27 0
-            + records_len self.old.writer.key.size_limit padding (length content.now) }
-        ensures sent { OnOk result (out.new.items ≡ out.old.items
-            ++ records_before self.old (content_records self.old.writer padding (length content.now))
-            ++ concat (records_of
-            (before_content self.old (content_records self.old.writer padding (length content.now))).writer
-            ContentType.ApplicationData padding content.now)) }
-        ensures counted { OnOk result (self.new ≡ after_send self.old padding (length content.now)) }
-        ensures kept { IfErr result (LeavesUnsent
-            (updates_before self.old (content_records self.old.writer padding (length content.now)))
-            self.old self.new out.old.items out.new.items) }
+        ensures outcome { AppendOutcome (HasRoom self.old.writer padding (length content.now)
+            × IsSendable self.old padding (length content.now))
+            (RefusesToSendPadded self.old padding (length content.now))
+            (sent_for self.old ContentType.ApplicationData padding content.now) out.old out.new result
+            self.old self.new (after_send self.old padding (length content.now)) }
     {
         if self.is_closed {
             return Err(RecordError::Ended);
@@ -353,31 +317,13 @@ impl<'b> Connection<'b> {
     ///
     /// Fails with `Ended` after `close` or `abort`, with `EmptyContent` for no message, with `MessageLength` if they are not
     /// whole, with `MessageType` for one that `Stage::may_send` does not name at the `Stage` of the connection or that follows a
-    /// Finished, and then as `send` does. Nothing is then written, except as `send` says for `OutOfMemory`.
+    /// Finished, and then as `send` does. Nothing is then written.
     pub fn send_handshake(&mut self, messages: &[u8], out: &mut Vec<u8>) -> Result<(), RecordError>
-        ensures accepted { OnOk result (IsFalse self.old.is_closed × AreSendable self.old.stage messages.now
-            × MaySend self.old (content_records self.old.writer 0 (length messages.now))) }
-        ensures closed { IsTrue self.old.is_closed → IsErrOf result RecordError.Ended }
-        ensures refused { IsFalse self.old.is_closed → ¬ AreSendable self.old.stage messages.now
-            → IfErr result (RefusesToSend self.old.stage messages.now) }
-        ensures used_up { IsFalse self.old.is_closed → AreSendable self.old.stage messages.now
-            → ¬ MaySend self.old (content_records self.old.writer 0 (length messages.now))
-            → IsErrOf result RecordError.KeyUsedUp }
-        ensures memory { IsFalse self.old.is_closed → AreSendable self.old.stage messages.now
-            → MaySend self.old (content_records self.old.writer 0 (length messages.now))
-            → IsOkUnless result RecordError.OutOfMemory }
-        ensures room { IsErrOf result RecordError.OutOfMemory → vec_capacity out.old < vec_len out.old
-            + cond (updates_before self.old (content_records self.old.writer 0 (length messages.now))) 27 0
-            + records_len self.old.writer.key.size_limit 0 (length messages.now) }
-        ensures sent { OnOk result (out.new.items ≡ out.old.items
-            ++ records_before self.old (content_records self.old.writer 0 (length messages.now))
-            ++ concat (records_of
-            (before_content self.old (content_records self.old.writer 0 (length messages.now))).writer
-            ContentType.Handshake 0 messages.now)) }
-        ensures counted { OnOk result (self.new ≡ after_send self.old 0 (length messages.now)) }
-        ensures kept { IfErr result (LeavesUnsent
-            (updates_before self.old (content_records self.old.writer 0 (length messages.now)))
-            self.old self.new out.old.items out.new.items) }
+        ensures outcome { AppendOutcome (AreSendable self.old.stage messages.now
+            × IsSendable self.old 0 (length messages.now))
+            (RefusesToSendMessages self.old messages.now)
+            (sent_for self.old ContentType.Handshake 0 messages.now) out.old out.new result
+            self.old self.new (after_send self.old 0 (length messages.now)) }
     {
         if self.is_closed {
             return Err(RecordError::Ended);
@@ -395,35 +341,31 @@ impl<'b> Connection<'b> {
     /// Appends a KeyUpdate with this request to `out`, under the old key, and continues under the next traffic secret (RFC 8446
     /// sections 4.6.3 and 7.2). If the peer has asked for a KeyUpdate, the answer is appended first.
     ///
-    /// Fails with `Ended` after `close` or `abort`, and with `KeyUsedUp` if only the number for an alert is left under this key.
-    /// Nothing is then written. Fails with `OutOfMemory` only if the capacity of `out` is too small; then either nothing is
-    /// written, or the whole answer alone.
+    /// Fails with `Ended` after `close` or `abort`, with `KeyUsedUp` if only the number for an alert is left under this key, and
+    /// with `OutOfMemory` only if the capacity of `out` is too small. Nothing is then written.
     pub fn send_key_update(
         &mut self,
         request: KeyUpdateRequest,
         out: &mut Vec<u8>,
     ) -> Result<(), RecordError>
-        ensures accepted { OnOk result (IsFalse self.old.is_closed × MayUpdate self.old.writer) }
-        ensures closed { IsTrue self.old.is_closed → IsErrOf result RecordError.Ended }
-        ensures used_up { IsFalse self.old.is_closed → ¬ MayUpdate self.old.writer
-            → IsErrOf result RecordError.KeyUsedUp }
-        ensures memory { IsFalse self.old.is_closed → MayUpdate self.old.writer
-            → IsOkUnless result RecordError.OutOfMemory }
-        ensures room { IsErrOf result RecordError.OutOfMemory
-            → vec_capacity out.old < vec_len out.old + cond self.old.owes_update 27 0 + 27 }
-        ensures sent { OnOk result (out.new.items ≡ out.old.items ++ answer_of self.old
-            ++ update_record (after_answer self.old).writer request) }
-        ensures updated { OnOk result (self.new ≡ key_updated (after_answer self.old)) }
-        ensures kept { IfErr result (LeavesUnsent self.old.owes_update
-            self.old self.new out.old.items out.new.items) }
+        ensures outcome { AppendOutcome (IsFalse self.old.is_closed × MayUpdate self.old.writer)
+            (RefusesToUpdate self.old)
+            (answer_of self.old ++ update_record (after_answer self.old).writer request) out.old out.new result
+            self.old self.new (key_updated (after_answer self.old)) }
     {
         if self.is_closed {
             return Err(RecordError::Ended);
         }
-        if self.incoming.owes_update {
-            self.update(KeyUpdateRequest::NotRequested, out)?;
+        if self.writer.remaining() < KEPT {
+            return Err(RecordError::KeyUsedUp);
         }
-        self.update(request, out)
+        let owes_update = self.incoming.owes_update;
+        out.reserve(answer_len(owes_update) + UPDATE_LEN)?;
+        if owes_update {
+            self.append_update(KeyUpdateRequest::NotRequested, out);
+        }
+        self.append_update(request, out);
+        Ok(())
     }
 
     /// Appends close_notify to `out`, after which nothing more is sent (RFC 8446 section 6.1). What the peer sends is still
@@ -432,47 +374,35 @@ impl<'b> Connection<'b> {
     /// Fails with `Ended` after `close` or `abort`, with `KeyUsedUp` if no number is left, and with `OutOfMemory` only if the
     /// capacity of `out` is too small. Nothing is then written.
     pub fn close(&mut self, out: &mut Vec<u8>) -> Result<(), RecordError>
-        ensures accepted { OnOk result (IsFalse self.old.is_closed × (self.old.writer.number < self.old.writer.limit)) }
-        ensures closed { IsTrue self.old.is_closed → IsErrOf result RecordError.Ended }
-        ensures used_up { IsFalse self.old.is_closed → self.old.writer.limit ≤ self.old.writer.number
-            → IsErrOf result RecordError.KeyUsedUp }
-        ensures memory { IsFalse self.old.is_closed → self.old.writer.number < self.old.writer.limit
-            → IsOkUnless result RecordError.OutOfMemory }
-        ensures room { IsErrOf result RecordError.OutOfMemory → vec_capacity out.old < vec_len out.old + 24 }
-        ensures written { OnOk result (out.new.items ≡ out.old.items
-            ++ record_at self.old.writer.key self.old.writer.number close_notify) }
-        ensures ended { OnOk result (self.new ≡ after_alert self.old) }
-        ensures kept { OnErr result ((self.new ≡ self.old) × (out.new.items ≡ out.old.items)) }
+        ensures outcome { AppendOutcome (IsFalse self.old.is_closed × (self.old.writer.number < self.old.writer.limit))
+            (RefusesToAlert self.old) (record_at self.old.writer.key self.old.writer.number close_notify)
+            out.old out.new result self.old self.new (after_alert self.old) }
     {
-        if self.is_closed {
-            return Err(RecordError::Ended);
-        }
-        self.writer.close_notify(out)?;
-        self.is_closed = true;
-        Ok(())
+        self.send_alert(CLOSE_NOTIFY, out)
     }
 
     /// Appends a fatal alert to `out`, after which nothing more is sent (RFC 8446 section 6.2).
     ///
     /// Fails as `close` does. Nothing is then written.
     pub fn abort(&mut self, alert: AlertDescription, out: &mut Vec<u8>) -> Result<(), RecordError>
-        ensures accepted { OnOk result (IsFalse self.old.is_closed × (self.old.writer.number < self.old.writer.limit)) }
-        ensures closed { IsTrue self.old.is_closed → IsErrOf result RecordError.Ended }
-        ensures used_up { IsFalse self.old.is_closed → self.old.writer.limit ≤ self.old.writer.number
-            → IsErrOf result RecordError.KeyUsedUp }
-        ensures memory { IsFalse self.old.is_closed → self.old.writer.number < self.old.writer.limit
-            → IsOkUnless result RecordError.OutOfMemory }
-        ensures room { IsErrOf result RecordError.OutOfMemory → vec_capacity out.old < vec_len out.old + 24 }
-        ensures written { OnOk result (out.new.items ≡ out.old.items
-            ++ record_at self.old.writer.key self.old.writer.number (fatal_record alert)) }
-        ensures ended { OnOk result (self.new ≡ after_alert self.old) }
-        ensures kept { OnErr result ((self.new ≡ self.old) × (out.new.items ≡ out.old.items)) }
+        ensures outcome { AppendOutcome (IsFalse self.old.is_closed × (self.old.writer.number < self.old.writer.limit))
+            (RefusesToAlert self.old) (record_at self.old.writer.key self.old.writer.number (fatal_record alert))
+            out.old out.new result self.old self.new (after_alert self.old) }
+    {
+        self.send_alert(fatal_alert(alert), out)
+    }
+
+    /// Appends an alert, after which nothing more is sent.
+    fn send_alert(&mut self, alert: [u8; ALERT_LEN], out: &mut Vec<u8>) -> Result<(), RecordError>
+        ensures outcome { AppendOutcome (IsFalse self.old.is_closed × (self.old.writer.number < self.old.writer.limit))
+            (RefusesToAlert self.old) (record_at self.old.writer.key self.old.writer.number
+            (record { content_type = ContentType.Alert; content = alert; padding = 0 }))
+            out.old out.new result self.old self.new (after_alert self.old) }
     {
         if self.is_closed {
             return Err(RecordError::Ended);
         }
-        self.writer
-            .write(ContentType::Alert, &fatal_alert(alert), 0, out)?;
+        self.writer.write(ContentType::Alert, &alert, 0, out)?;
         self.is_closed = true;
         Ok(())
     }
@@ -485,114 +415,65 @@ impl<'b> Connection<'b> {
         padding: usize,
         out: &mut Vec<u8>,
     ) -> Result<(), RecordError>
+        requires open { IsFalse self.old.is_closed }
         requires allowed { IsAllowed self.old.writer.key.size_limit content_type
             (least_piece content_type (length content.now)) padding }
         requires cut { content_type ≢ ContentType.Alert }
-        ensures accepted { OnOk result
-            (MaySend self.old (content_records self.old.writer padding (length content.now))) }
-        ensures used_up { ¬ MaySend self.old (content_records self.old.writer padding (length content.now))
-            → IsErrOf result RecordError.KeyUsedUp }
-        ensures memory { MaySend self.old (content_records self.old.writer padding (length content.now))
-            → IsOkUnless result RecordError.OutOfMemory }
-        ensures room { IsErrOf result RecordError.OutOfMemory → vec_capacity out.old < vec_len out.old
-            + cond (updates_before self.old (content_records self.old.writer padding (length content.now))) 27 0
-            + records_len self.old.writer.key.size_limit padding (length content.now) }
-        ensures sent { OnOk result (out.new.items ≡ out.old.items
-            ++ records_before self.old (content_records self.old.writer padding (length content.now))
-            ++ concat (records_of
-            (before_content self.old (content_records self.old.writer padding (length content.now))).writer
-            content_type padding content.now)) }
-        ensures counted { OnOk result (self.new ≡ after_send self.old padding (length content.now)) }
-        ensures kept { IfErr result (LeavesUnsent
-            (updates_before self.old (content_records self.old.writer padding (length content.now)))
-            self.old self.new out.old.items out.new.items) }
+        ensures outcome { AppendOutcome (IsSendable self.old padding (length content.now))
+            (RefusesToSend self.old padding (length content.now))
+            (sent_for self.old content_type padding content.now) out.old out.new result
+            self.old self.new (after_send self.old padding (length content.now)) }
     {
-        let count = content_records(&self.writer, content.len(), padding);
-        if count > self.writer.limit().saturating_sub(KEPT) {
+        let cut = self.writer.cut(content.len(), padding);
+        let updates = self.updates_before(cut.count() as u64)?;
+        let Some(len) = cut.records_len(answer_len(updates), content.len(), padding) else {
+            return Err(RecordError::OutOfMemory);
+        };
+        out.reserve(len)?;
+        if updates {
+            self.append_update(KeyUpdateRequest::NotRequested, out);
+        }
+        self.writer
+            .append_content(cut, content_type, content, padding, out);
+        Ok(())
+    }
+
+    /// Returns whether a KeyUpdate comes before a content of so many records.
+    fn updates_before(&self, records: u64) -> Result<bool, RecordError>
+        ensures accepted { IsOk result ↔ MaySend self.now records }
+        ensures refused { IsOkUnless result RecordError.KeyUsedUp }
+        ensures updates { IfOk result (λ updates. updates ≡ updates_before self.now records) }
+    {
+        if records > self.writer.limit().saturating_sub(KEPT) {
             return Err(RecordError::KeyUsedUp);
         }
-        self.update_before(count, out)?;
-        self.writer
-            .write_content(content_type, content, padding, out)
-    }
-
-    /// Appends the KeyUpdate that comes before a content of so many records, if there is one.
-    fn update_before(&mut self, records: u64, out: &mut Vec<u8>) -> Result<(), RecordError>
-        requires fits { (0 < records) × (records ≤ content_limit self.old.writer) }
-        ensures accepted { OnOk result (MaySend self.old records) }
-        ensures used_up { ¬ MaySend self.old records → IsErrOf result RecordError.KeyUsedUp }
-        ensures memory { MaySend self.old records → IsOkUnless result RecordError.OutOfMemory }
-        ensures room { IsErrOf result RecordError.OutOfMemory → vec_capacity out.old
-            < vec_len out.old + cond (updates_before self.old records) 27 0 }
-        ensures capacity { vec_capacity out.old ≤ vec_capacity out.new }
-        ensures len { OnOk result (vec_len out.new
-            ≡ vec_len out.old + cond (updates_before self.old records) 27 0) }
-        ensures sent { OnOk result (out.new.items ≡ out.old.items ++ records_before self.old records) }
-        ensures updated { OnOk result (self.new ≡ before_content self.old records) }
-        ensures numbers { OnOk result (self.new.writer.number + records ≤ self.new.writer.limit) }
-        ensures size { self.new.writer.key.size_limit ≡ self.old.writer.key.size_limit }
-        ensures kept { OnErr result ((self.new ≡ self.old) × (out.new.items ≡ out.old.items)) }
-    {
-        if self.incoming.owes_update || records > self.remaining() {
-            return self.update(KeyUpdateRequest::NotRequested, out);
+        let updates = self.incoming.owes_update || records > self.remaining();
+        if updates && self.writer.remaining() < KEPT {
+            return Err(RecordError::KeyUsedUp);
         }
-        Ok(())
+        Ok(updates)
     }
 
-    /// Appends a KeyUpdate, which settles what is owed.
-    fn update(&mut self, request: KeyUpdateRequest, out: &mut Vec<u8>) -> Result<(), RecordError>
-        ensures accepted { OnOk result (MayUpdate self.old.writer) }
-        ensures used_up { ¬ MayUpdate self.old.writer → IsErrOf result RecordError.KeyUsedUp }
-        ensures memory { MayUpdate self.old.writer → IsOkUnless result RecordError.OutOfMemory }
-        ensures room { IsErrOf result RecordError.OutOfMemory → vec_capacity out.old < vec_len out.old + 27 }
-        ensures capacity { vec_capacity out.old ≤ vec_capacity out.new }
-        ensures len { OnOk result (vec_len out.new ≡ vec_len out.old + 27) }
-        ensures sent { OnOk result (out.new.items ≡ out.old.items ++ update_record self.old.writer request) }
-        ensures updated { OnOk result (self.new ≡ key_updated self.old) }
-        ensures kept { OnErr result ((self.new ≡ self.old) × (out.new.items ≡ out.old.items)) }
+    /// Appends a KeyUpdate under the old key to `out`, which has room for it, and continues under the next traffic secret. This
+    /// settles what is owed.
+    fn append_update(&mut self, request: KeyUpdateRequest, out: &mut Vec<u8>)
+        requires may { MayUpdate self.old.writer }
+        requires room { vec_len out.old + 27 ≤ vec_capacity out.old }
+        ensures appended { Appended 27 (update_record self.old.writer request) out.old out.new }
+        ensures updated { self.new ≡ key_updated self.old }
     {
-        write_key_update(&mut self.writer, request, out)?;
+        self.writer
+            .append(ContentType::Handshake, &request.message(), 0, out);
+        let Ok(()) = self.writer.update() else {
+            unreachable!();
+        };
         self.incoming.owes_update = false;
-        Ok(())
     }
 }
 
-/// The number of records as which a writer writes `len` bytes of a content that may be cut.
-#[tactic(auto, using(crate::proofs::ContentLemmas::some_records))]
-fn content_records(writer: &Writer, len: usize, padding: usize) -> u64
-    requires { HasRoom writer.now padding len }
-    ensures count { result ≡ content_records writer.now padding len }
-    ensures some { 0 < result }
+/// The length in bytes of a KeyUpdate that comes before something else, if one does.
+fn answer_len(is_due: bool) -> usize
+    ensures { result ≡ cond is_due 27 0 }
 {
-    if len == 0 {
-        1
-    } else {
-        len.div_ceil(writer.size_limit() - 1 - padding) as u64
-    }
-}
-
-/// Appends a KeyUpdate under the old key, and continues under the next traffic secret.
-fn write_key_update(
-    writer: &mut Writer,
-    request: KeyUpdateRequest,
-    out: &mut Vec<u8>,
-) -> Result<(), RecordError>
-    requires is_of { IsOfSecret writer.old.secret writer.old.key }
-    requires size { 64 ≤ writer.old.key.size_limit }
-    ensures accepted { OnOk result (MayUpdate writer.old) }
-    ensures used_up { ¬ MayUpdate writer.old → IsErrOf result RecordError.KeyUsedUp }
-    ensures memory { MayUpdate writer.old → IsOkUnless result RecordError.OutOfMemory }
-    ensures room { IsErrOf result RecordError.OutOfMemory → vec_capacity out.old < vec_len out.old + 27 }
-    ensures capacity { vec_capacity out.old ≤ vec_capacity out.new }
-    ensures len { OnOk result (vec_len out.new ≡ vec_len out.old + 27) }
-    ensures sent { OnOk result (out.new.items ≡ out.old.items ++ update_record writer.old request) }
-    ensures updated { OnOk result (writer.new ≡ next_writer writer.old) }
-    ensures kept { OnErr result ((writer.new ≡ writer.old) × (out.new.items ≡ out.old.items)) }
-    ensures is_of { IsOfSecret writer.new.secret writer.new.key }
-{
-    if writer.remaining() < KEPT {
-        return Err(RecordError::KeyUsedUp);
-    }
-    writer.write(ContentType::Handshake, &request.message(), 0, out)?;
-    writer.update()
+    if is_due { UPDATE_LEN } else { 0 }
 }

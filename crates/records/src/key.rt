@@ -1,10 +1,14 @@
 //! A key that seals and opens records by their numbers.
 
-ghost use Rattle.std.specs.Prelude.{◌≡◌, ℕ, List, ◌+◌, ◌-◌, ◌^◌, ◌<◌, ◌≤◌, ◌↔◌, ◌++◌, length, drop, take, slice_range, IsTrue, IsOk, IfOk, IsOkUnless, IfErr, IsErrOf, OnOk, OnErr};
+ghost use Rattle.std.specs.Prelude.{◌≡◌, ℕ, List, ◌+◌, ◌-◌, ◌^◌, ◌<◌, ◌≤◌, ◌↔◌, ◌++◌, length, drop, take, slice_range, vec_len, vec_capacity, IsTrue, IsOk, IfOk, IsOkUnless, IfErr, IsErrOf, OnOk, OnErr};
+ghost use Rattle.aead_ciphers_base.specs.Aes.{aes};
 ghost use Rattle.aead_ciphers.specs.Algorithm.{key_len};
+ghost use Rattle.aead_ciphers.specs.Counting.{xored_nonce};
+ghost use Rattle.aead_ciphers.specs.Gcm.{gcm_encrypted, gcm_tag};
 ghost use Rattle.key_derivation.specs.Tls.{record_iv, record_key};
+ghost use Rattle.records.specs.Appending.{Appended};
 ghost use Rattle.records.specs.Keys.{HasKey, new_key, rekeyed, secret_key, suite_algorithm};
-ghost use Rattle.records.specs.Record.{header, record_at, Carries, Inner, IsAllowed, IsWhole, Seals};
+ghost use Rattle.records.specs.Record.{header, plaintext, record_at, type_code, Carries, Inner, IsAllowed, IsWhole, Seals};
 ghost use Rattle.records.specs.Refusals.{RefusesContent, RefusesToOpenTo, RefusesToSeal};
 ghost use Rattle.records.specs.Steps.{content_at, LeavesInner, LeavesRefused, Opens, OpensMessage, RefusesMessage};
 
@@ -18,6 +22,7 @@ use aead_ciphers::aead::{
 };
 use aead_ciphers_wide::aead::LessSafeKey;
 use key_derivation::{Secret, Suite};
+use std::alloc::AllocError;
 use std::marker::Model;
 
 /// The AEAD algorithm of a suite.
@@ -116,7 +121,8 @@ impl RecordKey {
 
     /// Returns the size limit: the most bytes that an inner plaintext may have, including its content type and padding.
     pub fn size_limit(&self) -> usize
-        ensures { result ≡ self.now.size_limit }
+        ensures limit { result ≡ self.now.size_limit }
+        ensures most { result ≤ 2 ^ 14 + 1 }
     {
         self.size_limit
     }
@@ -205,10 +211,53 @@ impl RecordKey {
         if out.len() < len {
             return Err(RecordError::NoRoom);
         }
-        let record = &mut out[..len];
-        record[HEADER_LEN..HEADER_LEN + content.len()].copy_from_slice(content);
-        self.seal_whole(number, content_type, record, content.len());
+        self.seal_from(number, content_type, content, &mut out[..len]);
         Ok(len)
+    }
+
+    /// Writes the record with this number, which is the whole of `bytes`.
+    pub(crate) fn seal_from(
+        &self,
+        number: u64,
+        content_type: ContentType,
+        content: &[u8],
+        bytes: &mut [u8],
+    )
+        requires room { length content.now + 22 ≤ length bytes.old }
+        requires fits { length bytes.old ≤ 2 ^ 15 }
+        ensures { bytes.new ≡ record_at self.now number (record {
+          content_type = content_type;
+          content = content.now;
+          padding = length bytes.old - 22 - length content.now;
+        }) }
+    {
+        bytes[HEADER_LEN..HEADER_LEN + content.len()].copy_from_slice(content);
+        self.seal_whole(number, content_type, bytes, content.len());
+    }
+
+    /// Appends the record with this number to `out`, which has room for it.
+    pub(crate) fn append(
+        &self,
+        number: u64,
+        content_type: ContentType,
+        content: &[u8],
+        padding: usize,
+        out: &mut Vec<u8>,
+    )
+        requires fits { length content.now + padding ≤ 2 ^ 14 }
+        requires room { vec_len out.old + (length content.now + padding + 22) ≤ vec_capacity out.old }
+        ensures { Appended (length content.now + padding + 22) (record_at self.now number
+            (record { content_type = content_type; content = content.now; padding = padding })) out.old out.new }
+    {
+        let header = header_of(content.len() + padding + 1 + TAG_LEN);
+        let start = out.len() + HEADER_LEN;
+        let Ok(()) = append_unsealed(&header, content_type, content, padding, out) else {
+            unreachable!();
+        };
+        let tag = self.seal_message(number, &header, &mut out.as_mut_slice()[start..]);
+        let Ok(()) = out.extend_from_slice(tag.as_ref()) else {
+            unreachable!();
+        };
     }
 
     /// The length of the inner plaintext of a content of this type and length.
@@ -261,7 +310,14 @@ impl RecordKey {
         if payload.len() < len {
             return Err(RecordError::NoRoom);
         }
-        self.seal_body(number, content_type, &mut payload[..len], content_len);
+        let header = header_of(len);
+        self.seal_body(
+            number,
+            &header,
+            content_type,
+            &mut payload[..len],
+            content_len,
+        );
         Ok(len)
     }
 
@@ -282,12 +338,21 @@ impl RecordKey {
         }) }
     {
         let (head, body) = bytes.split_at_mut(HEADER_LEN);
-        head.copy_from_slice(&header_of(body.len()));
-        self.seal_body(number, content_type, body, content_len);
+        let header = header_of(body.len());
+        head.copy_from_slice(&header);
+        self.seal_body(number, &header, content_type, body, content_len);
     }
 
     /// Seals the payload of a record that is the whole of these bytes.
-    fn seal_body(&self, number: u64, content_type: ContentType, body: &mut [u8], content_len: usize)
+    fn seal_body(
+        &self,
+        number: u64,
+        aad: &[u8; HEADER_LEN],
+        content_type: ContentType,
+        body: &mut [u8],
+        content_len: usize,
+    )
+        requires aad { aad.now ≡ header (length body.old) }
         requires room { content_len + 17 ≤ length body.old }
         requires fits { length body.old ≤ 2 ^ 15 }
         ensures { header (length body.old) ++ body.new ≡ record_at self.now number (record {
@@ -296,18 +361,25 @@ impl RecordKey {
           padding = length body.old - 17 - content_len;
         }) }
     {
-        let header = header_of(body.len());
         let message_len = body.len() - TAG_LEN;
         let (message, tag_bytes) = body.split_at_mut(message_len);
         pad(message, content_type, content_len);
+        let tag = self.seal_message(number, aad, message);
+        tag_bytes.copy_from_slice(tag.as_ref());
+    }
+
+    /// Encrypts an inner plaintext in place under the nonce of this number, and returns its tag.
+    fn seal_message(&self, number: u64, aad: &[u8; HEADER_LEN], message: &mut [u8]) -> Tag
+        requires fits { length message.old ≤ 2 ^ 15 }
+        ensures ciphertext { message.new ≡ gcm_encrypted (aes self.now.bytes) (xored_nonce self.now.iv number) message.old }
+        ensures tag { result ≡ gcm_tag (aes self.now.bytes) (xored_nonce self.now.iv number) aad.now message.new }
+    {
         let nonce = nonce_of(&self.iv, number);
-        let Ok(tag) = self
-            .key
-            .seal_in_place_separate_tag(nonce, Aad::from(header.as_slice()), message)
-        else {
+        let aad = Aad::from(aad.as_slice());
+        let Ok(tag) = self.key.seal_in_place_separate_tag(nonce, aad, message) else {
             unreachable!();
         };
-        tag_bytes.copy_from_slice(tag.as_ref());
+        tag
     }
 
     /// Opens the record with this number, which is the whole of `bytes`, in place, and returns the type of its content and its
@@ -512,4 +584,23 @@ impl RecordKey {
             Err(_) => Err(RecordError::Refused),
         }
     }
+}
+
+/// Appends a header and an inner plaintext to `out`, which has room for them.
+fn append_unsealed(
+    header: &[u8; HEADER_LEN],
+    content_type: ContentType,
+    content: &[u8],
+    padding: usize,
+    out: &mut Vec<u8>,
+) -> Result<(), AllocError>
+    requires room { vec_len out.old + (length content.now + padding + 6) ≤ vec_capacity out.old }
+    ensures ok { IsOk result }
+    ensures appended { Appended (length content.now + padding + 6)
+        (header.now ++ plaintext content.now (type_code content_type) padding) out.old out.new }
+{
+    out.extend_from_slice(header)?;
+    out.extend_from_slice(content)?;
+    out.extend_from_slice(&[content_type.code()])?;
+    out.resize(out.len() + padding, 0)
 }

@@ -50,3 +50,6 @@ pub const DEFAULT_LIMIT: u64 = 1 << 24;
 
 /// The length of a tag in bytes.
 const TAG_LEN: usize = MAX_TAG_LEN;
+
+/// The bytes of a record beside its content and its padding: its header, a content type and a tag.
+const RECORD_OVERHEAD: usize = HEADER_LEN + 1 + TAG_LEN;

@@ -3,6 +3,7 @@
 ghost use Rattle.std.specs.Prelude.{◌≡◌, ◌+◌, ◌-◌, ◌^◌, ◌≤◌, ◌↔◌, min, length, slice_range, None, IsTrue, IsFalse, IsSome, IsNone, IfSome, IsOk, IfOk, IsOkUnless, IsErrOf, IfErr, OnOk, OnErr, false};
 ghost use Rattle.aead_ciphers.specs.Algorithm.{key_len};
 ghost use Rattle.records.specs.Keys.{IsKeyOf, IsOfSecret, new_key, next_reader, reader_of, rekeyed};
+ghost use Rattle.records.specs.Refusals.{RefusesReadKey};
 ghost use Rattle.records.specs.Steps.{content_at, lent_content, after_error, LeavesInner, LeavesRefused, Reads};
 
 mod early_data;
@@ -204,11 +205,7 @@ impl Reader {
     pub fn update_with(&mut self, key: &[u8], iv: [u8; NONCE_LEN]) -> Result<(), RecordError>
         ensures accepted { IsOk result ↔ (IsFalse self.old.is_closed × IsNone self.old.secret
             × (length key.now ≡ key_len self.old.key.algorithm)) }
-        ensures closed { IsTrue self.old.is_closed → IsErrOf result RecordError.Closed }
-        ensures has_secret { IsFalse self.old.is_closed → IsSome self.old.secret
-            → IsErrOf result RecordError.HasSecret }
-        ensures refused { IsFalse self.old.is_closed → IsNone self.old.secret
-            → IsOkUnless result RecordError.KeyLength }
+        ensures refused { IfErr result (RefusesReadKey self.old key.now) }
         ensures updated { OnOk result (self.new
             ≡ record self.old { key = rekeyed self.old.key key.now iv; number = 0 }) }
         ensures kept { OnErr result (self.new ≡ self.old) }

@@ -1,10 +1,11 @@
 //! Writing records.
 
-ghost use Rattle.std.specs.Prelude.{◌≡◌, ◌+◌, ◌-◌, ◌^◌, ◌<◌, ◌≤◌, ◌↔◌, ◌++◌, min, length, drop, replicate, slice_range, vec_len, vec_capacity, None, IsSome, IsNone, IfSome, IsOk, IfOk, IsOkUnless, OnOk, IfErr, OnErr, IsErrOf};
+ghost use Rattle.std.specs.Prelude.{◌≡◌, ◌+◌, ◌-◌, ◌^◌, ◌<◌, ◌≤◌, ◌↔◌, ◌++◌, min, length, drop, slice_range, vec_len, vec_capacity, None, IsSome, IsNone, IfSome, IsOk, IfOk, IsOkUnless, OnOk, IfErr, OnErr};
 ghost use Rattle.aead_ciphers.specs.Algorithm.{key_len};
+ghost use Rattle.records.specs.Appending.{AppendOutcome, Appended};
 ghost use Rattle.records.specs.Keys.{HasKey, IsKeyOf, IsOfSecret, new_key, next_writer, rekeyed, writer_of};
 ghost use Rattle.records.specs.Record.{IsAllowed, record_at};
-ghost use Rattle.records.specs.Refusals.{RefusesContent, RefusesToSeal};
+ghost use Rattle.records.specs.Refusals.{RefusesToSealNext, RefusesToWriteNext, RefusesWriteKey};
 
 mod content;
 
@@ -14,7 +15,6 @@ use crate::record_error::RecordError;
 use crate::{DEFAULT_LIMIT, HEADER_LEN, TAG_LEN};
 use aead_ciphers::aead::{Algorithm, NONCE_LEN};
 use key_derivation::Secret;
-use std::alloc::AllocError;
 use std::marker::Model;
 
 /// Writes records, each under the next number, over key updates. It cannot be cloned, and does not expose its key.
@@ -37,7 +37,7 @@ pub struct Writer {
 }
 
 impl Model for Writer {
-    ghost use Rattle.std.specs.Prelude.{IfSome};
+    ghost use Rattle.std.specs.Prelude.{◌<◌, ◌^◌, IfSome};
     ghost use Rattle.records.specs.Keys.{IsKeyOf, WriterState};
 
     ghost Value = { WriterState };
@@ -49,7 +49,7 @@ impl Model for Writer {
       limit = w.limit;
     } };
 
-    ghost invariant = { λ w. IfSome w.secret (λ s. IsKeyOf s w.key) };
+    ghost invariant = { λ w. IfSome w.secret (λ s. IsKeyOf s w.key) × (w.limit < 2 ^ 64) };
 }
 
 impl Writer {
@@ -177,10 +177,7 @@ impl Writer {
     pub fn update_with(&mut self, key: &[u8], iv: [u8; NONCE_LEN]) -> Result<(), RecordError>
         ensures accepted { IsOk result ↔ (IsNone self.old.secret × (¬ HasKey self.old.key key.now iv)
             × (length key.now ≡ key_len self.old.key.algorithm)) }
-        ensures has_secret { IsSome self.old.secret → IsErrOf result RecordError.HasSecret }
-        ensures same_key { IsNone self.old.secret → HasKey self.old.key key.now iv → IsErrOf result RecordError.SameKey }
-        ensures refused { IsNone self.old.secret → ¬ HasKey self.old.key key.now iv
-            → IsOkUnless result RecordError.KeyLength }
+        ensures refused { IfErr result (RefusesWriteKey self.old key.now iv) }
         ensures updated { OnOk result (self.new
             ≡ record self.old { key = rekeyed self.old.key key.now iv; number = 0 }) }
         ensures kept { OnErr result (self.new ≡ self.old) }
@@ -219,10 +216,8 @@ impl Writer {
         ensures accepted { IsOk result ↔ ((self.old.number < self.old.limit)
             × IsAllowed self.old.key.size_limit content_type content_len padding
             × (content_len + padding + 22 ≤ length bytes.old)) }
-        ensures ended { self.old.limit ≤ self.old.number
-            → IsErrOf result RecordError.KeyUsedUp }
-        ensures refused { self.old.number < self.old.limit → IfErr result (RefusesToSeal
-            self.old.key.size_limit content_type content_len padding (length bytes.old)) }
+        ensures refused { IfErr result
+            (RefusesToSealNext self.old content_type content_len padding (length bytes.old)) }
         ensures len { IfOk result (λ n. n ≡ content_len + padding + 22) }
         ensures sealed { OnOk result (bytes.new ≡ record_at self.old.key self.old.number (record {
           content_type = content_type;
@@ -256,58 +251,39 @@ impl Writer {
         padding: usize,
         out: &mut Vec<u8>,
     ) -> Result<(), RecordError>
-        ensures accepted { OnOk result ((self.old.number < self.old.limit)
-            × IsAllowed self.old.key.size_limit content_type (length content.now) padding) }
-        ensures ended { self.old.limit ≤ self.old.number
-            → IsErrOf result RecordError.KeyUsedUp }
-        ensures refused { self.old.number < self.old.limit
-            → ¬ IsAllowed self.old.key.size_limit content_type (length content.now) padding
-            → IfErr result (RefusesContent
-            self.old.key.size_limit content_type (length content.now) padding) }
-        ensures memory { self.old.number < self.old.limit
-            → IsAllowed self.old.key.size_limit content_type (length content.now) padding
-            → IsOkUnless result RecordError.OutOfMemory }
-        ensures room { IsErrOf result RecordError.OutOfMemory
-            → vec_capacity out.old < vec_len out.old + length content.now + padding + 22 }
-        ensures capacity { vec_capacity out.old ≤ vec_capacity out.new }
-        ensures len { OnOk result (vec_len out.new
-            ≡ vec_len out.old + length content.now + padding + 22) }
-        ensures written { OnOk result (out.new.items ≡ out.old.items
-            ++ record_at self.old.key self.old.number
-            (record { content_type = content_type; content = content.now; padding = padding })) }
-        ensures counted { OnOk result
-            (self.new ≡ record self.old { number = self.old.number + 1 }) }
-        ensures kept { OnErr result ((self.new ≡ self.old) × (out.new.items ≡ out.old.items)) }
+        ensures outcome { AppendOutcome ((self.old.number < self.old.limit)
+            × IsAllowed self.old.key.size_limit content_type (length content.now) padding)
+            (RefusesToWriteNext self.old content_type (length content.now) padding)
+            (record_at self.old.key self.old.number
+            (record { content_type = content_type; content = content.now; padding = padding }))
+            out.old out.new result self.old self.new (record self.old { number = self.old.number + 1 }) }
     {
         if self.number >= self.limit {
             return Err(RecordError::KeyUsedUp);
         }
-        self.key.inner_len(content_type, content.len(), padding)?;
-        let start = out.len();
-        append_unsealed(out, content, padding)?;
-        let record = &mut out.as_mut_slice()[start..];
-        self.key
-            .seal_whole(self.number, content_type, record, content.len());
-        self.number += 1;
+        let len = HEADER_LEN + self.key.inner_len(content_type, content.len(), padding)? + TAG_LEN;
+        out.reserve(len)?;
+        self.append(content_type, content, padding, out);
         Ok(())
     }
-}
 
-/// Appends a content with room for its record around it, or nothing if the `Vec` cannot grow.
-fn append_unsealed(out: &mut Vec<u8>, content: &[u8], padding: usize) -> Result<(), AllocError>
-    requires { length content.now + padding ≤ 2 ^ 14 }
-    ensures ok { OnOk result (out.new.items
-        ≡ out.old.items ++ (replicate 5 0 ++ (content.now ++ replicate (padding + 17) 0))) }
-    ensures err { OnErr result (out.new.items ≡ out.old.items) }
-    ensures full { OnErr result
-        (vec_capacity out.old < vec_len out.old + length content.now + padding + 22) }
-    ensures capacity { vec_capacity out.old ≤ vec_capacity out.new }
-    ensures len { OnOk result
-        (vec_len out.new ≡ vec_len out.old + length content.now + padding + 22) }
-{
-    let rest = padding + 1 + TAG_LEN;
-    out.reserve(HEADER_LEN + content.len() + rest)?;
-    out.extend_from_slice(&[0; HEADER_LEN])?;
-    out.extend_from_slice(content)?;
-    out.resize(out.len() + rest, 0)
+    /// Appends the next record to `out`, which has room for it.
+    pub(crate) fn append(
+        &mut self,
+        content_type: ContentType,
+        content: &[u8],
+        padding: usize,
+        out: &mut Vec<u8>,
+    )
+        requires numbers { self.old.number < self.old.limit }
+        requires fits { length content.now + padding ≤ 2 ^ 14 }
+        requires room { vec_len out.old + (length content.now + padding + 22) ≤ vec_capacity out.old }
+        ensures appended { Appended (length content.now + padding + 22) (record_at self.old.key self.old.number
+            (record { content_type = content_type; content = content.now; padding = padding })) out.old out.new }
+        ensures counted { self.new ≡ record self.old { number = self.old.number + 1 } }
+    {
+        self.key
+            .append(self.number, content_type, content, padding, out);
+        self.number += 1;
+    }
 }

@@ -1,6 +1,6 @@
 //! What an end receives, one record after another.
 
-ghost use Rattle.std.specs.Prelude.{◌≡◌, ◌≢◌, ◌+◌, ◌||◌, ◌==◌, ◌≤◌, ◌<◌, [], length, drop, map, slice_range, slice_index, false, IsFalse, IfOk, IfErr, IfSome, OnOk, OnErr, None, cond, vec_capacity};
+ghost use Rattle.std.specs.Prelude.{◌≡◌, ◌≢◌, ◌+◌, ◌||◌, ◌==◌, ◌≤◌, ◌<◌, [], length, drop, map, slice_index, false, IsFalse, IfOk, IfErr, IfSome, OnOk, OnErr, None, cond, vec_capacity};
 ghost use Rattle.records.specs.Connection.{Brings, Fails, FailsToBring, LeavesRecord, Rejects, Step, handling, receiving};
 ghost use Rattle.records.specs.Handling.{HandlesAll, MayHandle, RefusesToHandle, RejectsMessages, after_message};
 ghost use Rattle.records.specs.Keys.{IsOfSecret, next_reader};
@@ -233,36 +233,6 @@ fn receive_record(
     )
 }
 
-/// Receives the record `bytes[at..end]`.
-#[tactic(auto, using(std::proofs::lemmas::Slice::overwrites))]
-fn receive_record_at(
-    alloc: Global,
-    incoming: &mut Incoming,
-    messages: &mut MessageReader<'_>,
-    bytes: &mut [u8],
-    at: usize,
-    end: usize,
-    received: &mut Received,
-) -> Result<(), ReceiveError>
-    requires range { (at ≤ end) × (end ≤ length bytes.old) }
-    requires is_of { IsOfSecret incoming.old.reader.secret incoming.old.reader.key }
-    requires going { IsFalse incoming.old.is_ended × IsFalse messages.old.is_closed }
-    ensures step { OnOk result (Step (receiving incoming.old messages.old received.old)
-        (slice_range bytes.old at end) (receiving incoming.new messages.new received.new)) }
-    ensures failed { IfErr result (λ error. Fails (vec_capacity received.old.application_data)
-        (receiving incoming.old messages.old received.old) (slice_range bytes.old at end) error
-        (receiving incoming.new messages.new received.new)) }
-    ensures left { IfErr result (LeavesRecord (receiving incoming.old messages.old received.old)
-        (slice_range bytes.old at end) (slice_range bytes.new at end)) }
-    ensures kept { drop end bytes.new ≡ drop end bytes.old }
-    ensures open { OnOk result (IsFalse messages.new.is_closed) }
-    ensures capacity { vec_capacity received.old.application_data
-        ≤ vec_capacity received.new.application_data }
-    ensures is_of { IsOfSecret incoming.new.reader.secret incoming.new.reader.key }
-{
-    receive_record(alloc, incoming, messages, &mut bytes[at..end], received)
-}
-
 /// The length of the protected record at the front of these bytes, or `None` if it is not whole.
 #[tactic(auto, unfolding(crate::specs::Stream::NeedsMore))]
 fn protected_record_len(bytes: &[u8]) -> Result<Option<usize>, RecordError>
@@ -303,7 +273,7 @@ pub(super) fn receive_records(
     let mut at = 0;
     while let Some(len) = protected_record_len(&bytes[at..])? {
         let end = at + len;
-        receive_record_at(alloc, incoming, messages, bytes, at, end, received)?;
+        receive_record(alloc, incoming, messages, &mut bytes[at..end], received)?;
         if incoming.is_ended {
             return Ok(end);
         }

@@ -8,11 +8,8 @@ use super::Reader;
 use crate::content_type::ContentType;
 use crate::header::{MAX_ENCRYPTED_LEN, header_in};
 use crate::record_error::RecordError;
-use crate::{HEADER_LEN, TAG_LEN};
+use crate::{RECORD_OVERHEAD, TAG_LEN};
 use std::marker::Model;
-
-/// The bytes of a record that aren't counted: its header, a content type and a tag.
-const OVERHEAD: usize = HEADER_LEN + 1 + TAG_LEN;
 
 /// What a server that has rejected early data still passes over (RFC 8446 section 4.2.10).
 ///
@@ -72,7 +69,7 @@ impl EarlyData {
         ensures kept { OnErr result (self.new ≡ self.old) }
     {
         header_in(MAX_ENCRYPTED_LEN - TAG_LEN, bytes)?;
-        let counted = (bytes.len() - OVERHEAD) as u64;
+        let counted = (bytes.len() - RECORD_OVERHEAD) as u64;
         if self.is_over || counted > self.remaining {
             return Err(RecordError::TooMuchEarlyData);
         }

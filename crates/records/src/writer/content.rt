@@ -1,23 +1,20 @@
 //! A content of any length, as as many records as it takes (RFC 8446 section 5.1).
 
-ghost use Rattle.std.specs.Prelude.{◌≡◌, ◌+◌, ◌*◌, ◌^◌, ◌<◌, ◌≤◌, ◌↔◌, ◌++◌, length, take, drop, replicate, vec_len, vec_capacity, IsOk, IfOk, IfSome, IfNone, IsOkUnless, OnOk, IfErr, OnErr, IsErrOf};
+ghost use Rattle.std.specs.Prelude.{◌≡◌, ◌+◌, min, ◌*◌, ◌^◌, ◌<◌, ◌≤◌, ◌↔◌, ◌++◌, length, take, drop, vec_len, vec_capacity, IsOk, IfOk, IfSome, IfNone, OnOk, IfErr, OnErr};
 ghost use Rattle.std.specs.List.{concat};
-ghost use Rattle.records.specs.Content.{IsWritable, RefusesToSealAll, RefusesToWrite, after_content, consecutive_records, least_piece, piece_room, pieces, record_count, records_len, records_of};
+ghost use Rattle.records.specs.Appending.{AppendOutcome};
+ghost use Rattle.records.specs.Content.{IsCut, IsWritable, RefusesToSealAll, RefusesToWrite, RefusesToWriteAll, after_content, consecutive_records, least_piece, pieces, record_count, records_len, records_of};
 ghost use Rattle.records.specs.Record.{IsAllowed, record_at};
 
 use super::Writer;
+use crate::RECORD_OVERHEAD;
 use crate::content_type::ContentType;
 use crate::key::RecordKey;
 use crate::record_error::RecordError;
-use crate::{HEADER_LEN, TAG_LEN};
-use std::alloc::AllocError;
 
-/// The bytes of a record beside its content and its padding.
-const OVERHEAD: usize = HEADER_LEN + 1 + TAG_LEN;
-
-/// How a content is cut.
+/// How a content is cut into records.
 #[derive(Clone, Copy)]
-struct Cut {
+pub(crate) struct Cut {
     /// The most bytes of the content in a record.
     room: usize,
     /// The number of records.
@@ -25,13 +22,30 @@ struct Cut {
 }
 
 impl Cut {
-    /// The length of the records of `len` bytes, or `None` if it is no `usize`.
-    fn records_len(self, len: usize, padding: usize) -> Option<usize>
-        requires { padding ≤ 2 ^ 14 }
-        ensures some { IfSome result (λ n. n ≡ len + self.count * (padding + 22)) }
-        ensures none { IfNone result (2 ^ 64 ≤ len + self.count * (padding + 22)) }
+    /// The number of records.
+    pub(crate) fn count(self) -> usize
+        ensures { result ≡ self.count }
     {
-        self.count.checked_mul(padding + OVERHEAD)?.checked_add(len)
+        self.count
+    }
+
+    /// The length of the records of `len` bytes, behind so many other bytes, or `None` if it is no `usize`.
+    pub(crate) fn records_len(self, before: usize, len: usize, padding: usize) -> Option<usize>
+        requires { padding ≤ 2 ^ 14 }
+        ensures some { IfSome result (λ n. n ≡ before + (len + self.count * (padding + 22))) }
+        ensures none { IfNone result (2 ^ 64 ≤ before + (len + self.count * (padding + 22))) }
+    {
+        let overhead = self.count.checked_mul(padding + RECORD_OVERHEAD)?;
+        overhead.checked_add(len)?.checked_add(before)
+    }
+
+    /// The part of a content that the i-th record has.
+    fn piece(self, content: &[u8], i: usize) -> &[u8]
+        requires { i * self.room ≤ length content.now }
+        ensures { result.now ≡ take self.room (drop (i * self.room) content.now) }
+    {
+        let rest = &content[i * self.room..];
+        &rest[..self.room.min(rest.len())]
     }
 }
 
@@ -68,10 +82,19 @@ impl Writer {
             (self.new ≡ after_content self.old padding (length content.now)) }
         ensures kept { OnErr result ((self.new ≡ self.old) × (out.new ≡ out.old)) }
     {
-        let cut = self.cut(content_type, content.len(), padding)?;
-        match cut.records_len(content.len(), padding) {
+        let cut = self.check_content(content_type, content.len(), padding)?;
+        match cut.records_len(0, content.len(), padding) {
             Some(len) if len <= out.len() => {
-                self.seal_cut(cut, content_type, content, padding, out);
+                seal_pieces(
+                    &self.key,
+                    self.number,
+                    cut,
+                    content_type,
+                    content,
+                    padding,
+                    out,
+                );
+                self.number += cut.count as u64;
                 Ok(len)
             }
             _ => Err(RecordError::NoRoom),
@@ -90,74 +113,71 @@ impl Writer {
         padding: usize,
         out: &mut Vec<u8>,
     ) -> Result<(), RecordError>
-        ensures accepted { OnOk result
-            (IsWritable self.old content_type (length content.now) padding) }
-        ensures refused { ¬ IsWritable self.old content_type (length content.now) padding
-            → IfErr result (RefusesToWrite self.old content_type (length content.now) padding) }
-        ensures memory { IsWritable self.old content_type (length content.now) padding
-            → IsOkUnless result RecordError.OutOfMemory }
-        ensures room { IsErrOf result RecordError.OutOfMemory → vec_capacity out.old
-            < vec_len out.old + records_len self.old.key.size_limit padding (length content.now) }
-        ensures written { OnOk result (out.new.items
-            ≡ out.old.items ++ concat (records_of self.old content_type padding content.now)) }
-        ensures counted { OnOk result
-            (self.new ≡ after_content self.old padding (length content.now)) }
-        ensures kept { OnErr result ((self.new ≡ self.old) × (out.new.items ≡ out.old.items)) }
+        ensures outcome { AppendOutcome (IsWritable self.old content_type (length content.now) padding)
+            (RefusesToWriteAll self.old content_type (length content.now) padding)
+            (concat (records_of self.old content_type padding content.now)) out.old out.new result
+            self.old self.new (after_content self.old padding (length content.now)) }
     {
-        let cut = self.cut(content_type, content.len(), padding)?;
-        let Some(len) = cut.records_len(content.len(), padding) else {
+        let cut = self.check_content(content_type, content.len(), padding)?;
+        let Some(len) = cut.records_len(0, content.len(), padding) else {
             return Err(RecordError::OutOfMemory);
         };
-        let start = out.len();
-        append_zeros(out, len)?;
-        let records = &mut out.as_mut_slice()[start..];
-        self.seal_cut(cut, content_type, content, padding, records);
+        out.reserve(len)?;
+        self.append_content(cut, content_type, content, padding, out);
         Ok(())
     }
 
-    /// How a content of this type and length is cut.
-    fn cut(&self, content_type: ContentType, len: usize, padding: usize) -> Result<Cut, RecordError>
+    /// Checks that a content of this type and length may be written, and returns how it is cut.
+    fn check_content(
+        &self,
+        content_type: ContentType,
+        len: usize,
+        padding: usize,
+    ) -> Result<Cut, RecordError>
         ensures accepted { IsOk result ↔ IsWritable self.now content_type len padding }
         ensures refused { IfErr result (RefusesToWrite self.now content_type len padding) }
-        ensures padding { OnOk result (padding ≤ 2 ^ 14) }
-        ensures numbers { OnOk result (self.now.limit < 2 ^ 64) }
-        ensures room { IfOk result
-            (λ cut. cut.room ≡ piece_room self.now.key.size_limit padding) }
-        ensures count { IfOk result (λ cut. cut.count
-            ≡ record_count (piece_room self.now.key.size_limit padding) len) }
+        ensures cut { IfOk result (IsCut self.now.key.size_limit padding len) }
     {
         let least = least_piece(content_type, len);
         self.key.inner_len(content_type, least, padding)?;
-        let room = self.key.size_limit() - 1 - padding;
-        let count = record_count(room, len);
-        if self.limit.saturating_sub(self.number) < count as u64 {
+        let cut = self.cut(len, padding);
+        if self.limit.saturating_sub(self.number) < cut.count as u64 {
             return Err(RecordError::KeyUsedUp);
         }
-        Ok(Cut { room, count })
+        Ok(cut)
     }
 
-    /// Seals a content under the next numbers, from the front of `out` on.
-    fn seal_cut(
+    /// How a content of this length is cut, if its records have room for this padding and for a byte of it.
+    pub(crate) fn cut(&self, len: usize, padding: usize) -> Cut
+        requires { min len 1 + 1 + padding ≤ self.now.key.size_limit }
+        ensures cut { IsCut self.now.key.size_limit padding len result }
+        ensures some { 0 < result.count }
+    {
+        let room = self.key.size_limit() - 1 - padding;
+        Cut {
+            room,
+            count: record_count(room, len),
+        }
+    }
+
+    /// Appends the records of a content under the next numbers to `out`, which has room for them.
+    pub(crate) fn append_content(
         &mut self,
         cut: Cut,
         content_type: ContentType,
         content: &[u8],
         padding: usize,
-        out: &mut [u8],
+        out: &mut Vec<u8>,
     )
         requires writable { IsWritable self.old content_type (length content.now) padding }
-        requires numbers { self.old.limit < 2 ^ 64 }
-        requires room { cut.room ≡ piece_room self.old.key.size_limit padding }
-        requires count { cut.count
-            ≡ record_count (piece_room self.old.key.size_limit padding) (length content.now) }
-        requires fits { records_len self.old.key.size_limit padding (length content.now)
-            ≤ length out.old }
-        ensures sealed { out.new
-            ≡ concat (records_of self.old content_type padding content.now)
-            ++ drop (records_len self.old.key.size_limit padding (length content.now)) out.old }
+        requires cut { IsCut self.old.key.size_limit padding (length content.now) cut }
+        requires room { vec_len out.old + records_len self.old.key.size_limit padding (length content.now)
+            ≤ vec_capacity out.old }
+        ensures appended { out.new.items
+            ≡ out.old.items ++ concat (records_of self.old content_type padding content.now) }
         ensures counted { self.new ≡ after_content self.old padding (length content.now) }
     {
-        seal_pieces(
+        append_pieces(
             &self.key,
             self.number,
             cut,
@@ -182,9 +202,7 @@ fn seal_pieces(
 )
     requires allowed { IsAllowed key.now.size_limit content_type
         (least_piece content_type (length content.now)) padding }
-    requires room { cut.room ≡ piece_room key.now.size_limit padding }
-    requires count { cut.count
-        ≡ record_count (piece_room key.now.size_limit padding) (length content.now) }
+    requires cut { IsCut key.now.size_limit padding (length content.now) cut }
     requires numbers { first + cut.count < 2 ^ 64 }
     requires fits { records_len key.now.size_limit padding (length content.now)
         ≤ length out.old }
@@ -194,10 +212,58 @@ fn seal_pieces(
 {
     let mut filled = 0;
     for i in 0..cut.count {
-        let rest = &content[i * cut.room..];
-        let piece = &rest[..cut.room.min(rest.len())];
+        let piece = cut.piece(content, i);
         let number = first + i as u64;
         filled = seal_piece(key, number, content_type, piece, padding, out, filled);
+    }
+}
+
+/// Seals the record of a piece from `filled` on, and returns where it ends.
+fn seal_piece(
+    key: &RecordKey,
+    number: u64,
+    content_type: ContentType,
+    piece: &[u8],
+    padding: usize,
+    out: &mut [u8],
+    filled: usize,
+) -> usize
+    requires fits { length piece.now + padding ≤ 2 ^ 14 }
+    requires room { filled + length piece.now + padding + 22 ≤ length out.old }
+    ensures end { result ≡ filled + length piece.now + padding + 22 }
+    ensures sealed { out.new ≡ take filled out.old ++ (record_at key.now number (record {
+      content_type = content_type;
+      content = piece.now;
+      padding = padding;
+    }) ++ drop result out.old) }
+{
+    let end = filled + piece.len() + padding + RECORD_OVERHEAD;
+    key.seal_from(number, content_type, piece, &mut out[filled..end]);
+    end
+}
+
+/// Appends the records of the pieces of a content to `out`, which has room for them.
+fn append_pieces(
+    key: &RecordKey,
+    first: u64,
+    cut: Cut,
+    content_type: ContentType,
+    content: &[u8],
+    padding: usize,
+    out: &mut Vec<u8>,
+)
+    requires allowed { IsAllowed key.now.size_limit content_type
+        (least_piece content_type (length content.now)) padding }
+    requires cut { IsCut key.now.size_limit padding (length content.now) cut }
+    requires numbers { first + cut.count < 2 ^ 64 }
+    requires room { vec_len out.old + records_len key.now.size_limit padding (length content.now)
+        ≤ vec_capacity out.old }
+    ensures { out.new.items ≡ out.old.items ++ concat (consecutive_records key.now first
+        (pieces content_type key.now.size_limit padding content.now)) }
+{
+    for i in 0..cut.count {
+        let piece = cut.piece(content, i);
+        key.append(first + i as u64, content_type, piece, padding, out);
     }
 }
 
@@ -219,39 +285,4 @@ fn record_count(room: usize, len: usize) -> usize
     ensures some { 0 < result }
 {
     if len == 0 { 1 } else { len.div_ceil(room) }
-}
-
-/// Seals the record of a piece from `filled` on, and returns where it ends.
-fn seal_piece(
-    key: &RecordKey,
-    number: u64,
-    content_type: ContentType,
-    piece: &[u8],
-    padding: usize,
-    out: &mut [u8],
-    filled: usize,
-) -> usize
-    requires allowed { IsAllowed key.now.size_limit content_type (length piece.now) padding }
-    requires room { filled + length piece.now + padding + 22 ≤ length out.old }
-    ensures end { result ≡ filled + length piece.now + padding + 22 }
-    ensures sealed { out.new ≡ take filled out.old ++ (record_at key.now number (record {
-      content_type = content_type;
-      content = piece.now;
-      padding = padding;
-    }) ++ drop result out.old) }
-{
-    let Ok(len) = key.seal_to(number, content_type, piece, padding, &mut out[filled..]) else {
-        unreachable!();
-    };
-    filled + len
-}
-
-/// Appends zeros, or nothing if the `Vec` cannot grow.
-fn append_zeros(out: &mut Vec<u8>, len: usize) -> Result<(), AllocError>
-    ensures ok { OnOk result (out.new.items ≡ out.old.items ++ replicate len 0) }
-    ensures err { OnErr result (out.new.items ≡ out.old.items) }
-    ensures full { OnErr result (vec_capacity out.old < vec_len out.old + len) }
-{
-    out.reserve(len)?;
-    out.resize(out.len() + len, 0)
 }

@@ -1,0 +1,19 @@
+-- What a call that appends records to a `Vec` leaves.
+use Rattle.std.specs.Prelude.{◌≡◌, ℕ, ◌+◌, ◌-◌, ◌≤◌, List, ◌++◌, Result, IfErr, OnErr, OnOk, Vec, vec_capacity, vec_len}
+use Rattle.records.specs.declared.record_error.RecordError.{RecordError}
+
+-- What becomes of a call that appends these bytes to a `Vec`. They are appended, and the caller's state becomes `after`; or the call is
+-- refused for a reason, which may depend on how many bytes more the `Vec` has room for, and neither its bytes nor the state change.
+pub record AppendOutcome {T State Z : Type 0} (Accepts : Type 0) (Refuses : (spare : ℕ) → RecordError → Type 0) (bytes : List ℕ)
+    (old new : Vec ℕ Z) (result : Result T RecordError) (before now after : State) : Type 0 where
+  pub accepted : OnOk result Accepts
+  pub refused : IfErr result (Refuses (vec_capacity old - vec_len old))
+  pub appended : OnOk result (new.items ≡ old.items ++ bytes)
+  pub counted : OnOk result (now ≡ after)
+  pub kept : OnErr result ((new.items ≡ old.items) × (now ≡ before))
+
+-- these bytes, of which there are n, were appended to a `Vec` that had room for them
+pub record Appended {Z : Type 0} (n : ℕ) (bytes : List ℕ) (old new : Vec ℕ Z) : Type 0 where
+  pub items : new.items ≡ old.items ++ bytes
+  pub len : vec_len new ≡ vec_len old + n
+  pub capacity : vec_capacity old ≤ vec_capacity new
