@@ -10,7 +10,7 @@ use Rattle.std.specs.declared.ops.Range.{Range}
 use Rattle.quic_packets.specs.Datagram.{IsIn, IsPlaced, has_long_id, initial_token, known_layout, long_packet, numbered_layout, opaque_layout, parts_of, retry_layout, short_layout, source_end, span, typed_layout, varint, version_of, versioned_layout, whole, with_fixed_bit}
 use Rattle.quic_packets.specs.declared.datagram.DatagramError.{DatagramError}
 use Rattle.quic_packets.specs.declared.datagram.PacketType.{PacketType}
-use Rattle.quic_packets.specs.declared.datagram.PacketType.TheVariants.{Initial, ZeroRtt, Handshake, Retry, VersionNegotiation, OneRtt, OtherVersion}
+use Rattle.quic_packets.specs.declared.datagram.PacketType.TheVariants.{Initial, Retry, VersionNegotiation, OtherVersion}
 use Rattle.key_derivation.specs.Quic.{numbered_version}
 use Rattle.key_derivation.specs.declared.quic.Version.{Version}
 use Rattle.quic_packets.specs.FixedBit.{lacks_fixed_bit}
@@ -124,11 +124,7 @@ plain_laid d start kind = numbered_laid d start kind (span (source_end d start) 
 typed_laid : (d : List ℕ) (start : ℕ) (kind : PacketType) → IsLaid start (typed_layout kind d start)
 typed_laid d start Initial = numbered_laid d start Initial (initial_token d start) (omega arith) (omega arith)
 typed_laid d start Retry = retry_laid d start
-typed_laid d start ZeroRtt = plain_laid d start ZeroRtt
-typed_laid d start Handshake = plain_laid d start Handshake
-typed_laid d start VersionNegotiation = plain_laid d start VersionNegotiation
-typed_laid d start OneRtt = plain_laid d start OneRtt
-typed_laid d start OtherVersion = plain_laid d start OtherVersion
+typed_laid d start kind = plain_laid d start kind
 
 known_laid : (d : List ℕ) (start : ℕ) (version : Option Version) → IsLaid start (known_layout version d start)
 known_laid d start (Some version) = typed_laid d start (type_of version (bits_of (get_or d start 0)))

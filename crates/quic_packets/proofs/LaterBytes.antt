@@ -10,7 +10,7 @@ use Rattle.quic_packets.specs.declared.datagram.DatagramError.TheVariants.{Cut, 
 use Rattle.quic_packets.specs.declared.datagram.Packet.{Packet}
 use Rattle.quic_packets.specs.declared.datagram.PacketType.{PacketType}
 use Rattle.quic_packets.specs.declared.fixed_bit.FixedBit.{FixedBit}
-use Rattle.quic_packets.specs.declared.datagram.PacketType.TheVariants.{Initial, ZeroRtt, Handshake, Retry, VersionNegotiation, OneRtt, OtherVersion}
+use Rattle.quic_packets.specs.declared.datagram.PacketType.TheVariants.{Initial, Retry, VersionNegotiation, OtherVersion}
 use Rattle.key_derivation.specs.Quic.{numbered_version}
 use Rattle.key_derivation.specs.declared.quic.Version.{Version}
 use Rattle.quic_packets.specs.Versions.{bits_of, type_of}
@@ -103,11 +103,7 @@ module _ (d e : List ℕ) (start : ℕ) (len : length e ≡ length d) (same : (i
   typed : (kind : PacketType) → typed_layout kind e start ≡ typed_layout kind d start
   typed Initial = initial
   typed Retry = retry
-  typed ZeroRtt = plain ZeroRtt
-  typed Handshake = plain Handshake
-  typed VersionNegotiation = plain VersionNegotiation
-  typed OneRtt = plain OneRtt
-  typed OtherVersion = plain OtherVersion
+  typed kind = plain kind
 
   known : (number : Option Version) → known_layout number e start ≡ known_layout number d start
   known (Some number) =

@@ -30,20 +30,14 @@ bytes_read (suc k) n high = bytes_read k n (high * 256 + byte_at k n) ∙ byte_o
 low_is : (k n : ℕ) → 0 < k → k ≤ 4 → low_bytes k n ≡ bytes_high_first k n
 unfolding low_bytes
 low_is zero n some few = absurd (omega arith)
-low_is (suc zero) n some few = refl
-low_is (suc (suc zero)) n some few = refl
-low_is (suc (suc (suc zero))) n some few = refl
-low_is (suc (suc (suc (suc zero)))) n some few = refl
 low_is (suc (suc (suc (suc (suc k))))) n some few = absurd (omega arith)
+low_is k n some few = refl
 
 pub length-low_bytes : (k n : ℕ) → 0 < k → k ≤ 4 → length (low_bytes k n) ≡ k
 unfolding low_bytes
 length-low_bytes zero n some few = absurd (omega arith)
-length-low_bytes (suc zero) n some few = refl
-length-low_bytes (suc (suc zero)) n some few = refl
-length-low_bytes (suc (suc (suc zero))) n some few = refl
-length-low_bytes (suc (suc (suc (suc zero)))) n some few = refl
 length-low_bytes (suc (suc (suc (suc (suc k))))) n some few = absurd (omega arith)
+length-low_bytes k n some few = refl
 
 -- the low bytes of a number are its low bits
 pub number_low_bytes : (k n : ℕ) → 0 < k → k ≤ 4 → number_from_digits 256 (low_bytes k n) ≡ n % 2 ^ (8 * k)
@@ -56,13 +50,7 @@ pub shifted : (xs : List ℕ) (len a b c d : ℕ) → 4 ≤ length xs → 0 < le
     → a ≡ get_or xs 0 0 → b ≡ get_or xs 1 0 → c ≡ get_or xs 2 0 → d ≡ get_or xs 3 0
     → (a * 256 ^ 3 + b * 256 ^ 2 + c * 256 + d) / 2 ^ (32 - 8 * len) ≡ number_from_digits 256 (take len xs)
 shifted xs zero a b c d long some few sb sc sd ea eb ec ed = absurd (omega arith)
-shifted xs (suc zero) a b c d long some few sb sc sd ea eb ec ed =
-    omega (arith, number_more 256 xs 0 (omega arith))
-shifted xs (suc (suc zero)) a b c d long some few sb sc sd ea eb ec ed =
-    omega (arith, number_more 256 xs 0 (omega arith), number_more 256 xs 1 (omega arith))
-shifted xs (suc (suc (suc zero))) a b c d long some few sb sc sd ea eb ec ed =
-    omega (arith, number_more 256 xs 0 (omega arith), number_more 256 xs 1 (omega arith), number_more 256 xs 2 (omega arith))
-shifted xs (suc (suc (suc (suc zero)))) a b c d long some few sb sc sd ea eb ec ed =
+shifted xs (suc (suc (suc (suc (suc n))))) a b c d long some few sb sc sd ea eb ec ed = absurd (omega arith)
+shifted xs len a b c d long some few sb sc sd ea eb ec ed =
     omega
     (arith, number_more 256 xs 0 (omega arith), number_more 256 xs 1 (omega arith), number_more 256 xs 2 (omega arith), number_more 256 xs 3 (omega arith))
-shifted xs (suc (suc (suc (suc (suc n))))) a b c d long some few sb sc sd ea eb ec ed = absurd (omega arith)

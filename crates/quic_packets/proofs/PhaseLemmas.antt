@@ -18,16 +18,31 @@ has_more : (n : ℕ) (p : Sent) (sent : List Sent) → Has n sent → Has n (p �
 has_more n p sent h = (h.0, (suc h.1.0, omega (arith, h.1.1), h.1.2), h.2)
 
 -- The numbers from `first` up to `next` came after all key updates, and each was sent unless it is skipped. No number that was
--- sent is skipped.
-record Run (first next : ℕ) (gaps : List Gap) (life : Life) (sent : List Sent) : Type 0 where
+-- sent is skipped. The key phase begins at `phase`: no update is later, and each packet is from there on, or before the last update.
+record Run (first next phase : ℕ) (gaps : List Gap) (life : Life) (sent : List Sent) : Type 0 where
   begun : All (λ u. u.first ≤ first) life.updates
   order : first ≤ next
   ranges : IsBelow next gaps
   below : All (λ p. p.number < next) sent
   used : All (λ p. is_skipped gaps p.number ≡ false) sent
   each : (n : ℕ) → first ≤ n → n < next → is_skipped gaps n ≡ false → Has n sent
+  phase_begun : All (λ u. u.first ≤ phase) life.updates
+  phase_order : phase ≤ next
+  phases : All (λ p. (phase ≤ p.number) ⊎ (updates_before life.updates p.number < length life.updates)) sent
 
-run_of : (s : Sender) (life : Life) (sent : List Sent) → HasSent s life sent → Run s.first s.next s.skipped life sent
+earlier : (u : Update) (us : List Update) (n : ℕ) → n < u.first → updates_before (u ∷ us) n < length (u ∷ us)
+earlier u us n lt = rw (lt-leb u.first n lt) (omega (arith, before-le us n))
+
+-- where each update before a number begins
+module _ (life : Life) (was now : ℕ) (le : was ≤ now) where
+  still_begun : All (λ u. u.first ≤ was) life.updates → All (λ u. u.first ≤ now) life.updates
+  still_begun begun = All-weaker (λ u. u.first ≤ was) (λ u. u.first ≤ now) (λ u h. omega (arith, le)) life.updates begun
+
+  still_below : (sent : List Sent) → All (λ p. p.number < was) sent → All (λ p. p.number < now) sent
+  still_below sent below = All-weaker (λ p. p.number < was) (λ p. p.number < now) (λ p h. omega (arith, le)) sent below
+
+run_of : (s : Sender) (life : Life) (sent : List Sent) → HasSent s life sent
+    → Run s.first s.next s.first_of_phase s.skipped life sent
 run_of s life sent (begins version key header_key secret from) = record {
   begun = All-nil (λ u. u.first ≤ from);
   order = omega arith;
@@ -35,6 +50,9 @@ run_of s life sent (begins version key header_key secret from) = record {
   below = All-nil (λ p. p.number < from);
   used = All-nil (λ p. is_skipped no_gaps p.number ≡ false);
   each = λ n le lt free. absurd (omega arith);
+  phase_begun = All-nil (λ u. u.first ≤ from);
+  phase_order = omega arith;
+  phases = All-nil _;
 }
 run_of t l ps (sends s life sent fixed_bit start end packet wire sealable turn is before) =
     let run = run_of s life sent before in
@@ -49,48 +67,64 @@ run_of t l ps (sends s life sent fixed_bit start end packet wire sealable turn i
       begun = run.begun;
       order = omega (arith, run.order);
       ranges = below_more s.next (s.next + 1) s.skipped (omega arith) run.ranges;
-      below = All-cons (λ q. q.number < s.next + 1) p sent (omega arith)
-          (All-weaker (λ q. q.number < s.next) (λ q. q.number < s.next + 1) (λ q h. omega arith) sent run.below);
+      below = All-cons (λ q. q.number < s.next + 1) p sent (omega arith) (still_below life s.next (s.next + 1) (omega arith) sent run.below);
       used = All-cons (λ q. is_skipped s.skipped q.number ≡ false) p sent (free_above s.next s.next s.skipped (omega arith) run.ranges) run.used;
       each = λ n le lt free. elim (cases_lt n s.next) [
         | inl earlier ↦ has_more n p sent (run.each n le earlier free)
         | inr last ↦ (p, (0, omega arith, refl), omega arith)
       ];
+      phase_begun = run.phase_begun;
+      phase_order = omega (arith, run.phase_order);
+      phases = All-cons (λ q. (s.first_of_phase ≤ q.number) ⊎ (updates_before life.updates q.number < length life.updates)) p sent
+          (inl run.phase_order) run.phases;
     }
 run_of t l ps (skips s life sent number le before) =
     let run = run_of s life sent before in
+    let below = still_below life s.next number le sent run.below in
+    let phase_order : s.first_of_phase ≤ number = omega (arith, run.phase_order) in
     elim (cases_lt s.next number) [
       | inl gap ↦ rw (lt-ltb s.next number gap) (record {
-        begun = All-weaker (λ u. u.first ≤ s.first) (λ u. u.first ≤ max s.first (forgotten s.skipped s.next)) (λ u h. omega arith)
-            life.updates run.begun;
+        begun = still_begun life s.first (max s.first (forgotten s.skipped s.next)) (omega arith) run.begun;
         order = omega (arith, run.order, forgotten_below s.next s.skipped run.ranges);
         ranges = below_with s.next number s.skipped le run.ranges;
-        below = All-weaker (λ p. p.number < s.next) (λ p. p.number < number) (λ p h. omega arith) sent run.below;
+        below = below;
         used = λ i d at. still_free s.next number (get_or sent i d).number s.skipped (run.below i d at) (run.used i d at);
         each = λ n from lt free. (
             let was = unskipped s.next number n s.skipped run.ranges lt (omega (arith, from)) free in
             run.each n (omega (arith, from)) was.0 was.1
             );
+        phase_begun = run.phase_begun;
+        phase_order = phase_order;
+        phases = run.phases;
       })
       | inr none ↦ rw (le-ltb s.next number none) (record {
         begun = run.begun;
         order = omega (arith, run.order);
         ranges = below_more s.next number s.skipped le run.ranges;
-        below = All-weaker (λ p. p.number < s.next) (λ p. p.number < number) (λ p h. omega arith) sent run.below;
+        below = below;
         used = run.used;
         each = λ n from lt free. run.each n from (omega arith) free;
+        phase_begun = run.phase_begun;
+        phase_order = phase_order;
+        phases = run.phases;
       })
     ]
 run_of t l ps (updates s life sent key secret before) =
     let run = run_of s life sent before in
+    let u : Update = record { key = key; first = s.next } in
+    let begun = All-cons (λ u. u.first ≤ s.next) u life.updates (omega arith) (still_begun life s.first s.next run.order run.begun) in
     record {
-      begun = All-cons (λ u. u.first ≤ s.next) _ life.updates (omega arith)
-          (All-weaker (λ u. u.first ≤ s.first) (λ u. u.first ≤ s.next) (λ u h. omega (arith, run.order)) life.updates run.begun);
+      begun = begun;
       order = omega arith;
       ranges = run.ranges;
       below = run.below;
       used = run.used;
       each = λ n le lt free. absurd (omega arith);
+      phase_begun = begun;
+      phase_order = omega arith;
+      phases = All-weaker (λ p. p.number < s.next)
+          (λ p. (s.next ≤ p.number) ⊎ (updates_before (u ∷ life.updates) p.number < length (u ∷ life.updates)))
+          (λ p lt. inr (earlier u life.updates p.number lt)) sent run.below;
     }
 run_of t l ps (hears s life sent number below before) = run_of s life sent before
 run_of t l ps (confirms s life sent before) = run_of s life sent before
@@ -104,8 +138,7 @@ acknowledged_was_sent s life sent number calls was taken now =
     let parts = or_parts (nat_le s.next number) (is_skipped s.skipped number) taken in
     record {
       was_sent = run.each number from (leb-false s.next number parts.0) parts.1;
-      in_phase = before_all life.updates number
-          (All-weaker (λ u. u.first ≤ s.first) (λ u. u.first ≤ number) (λ u h. omega arith) life.updates run.begun);
+      in_phase = before_all life.updates number (still_begun life s.first number from run.begun);
     }
 
 pub sent_is_acknowledged : (s : Sender) (life : Life) (sent : List Sent) (p : Sent) → HasSent s life sent → Contains sent p
@@ -116,63 +149,6 @@ sent_is_acknowledged s life sent p calls has =
     (lt-leb s.next p.number (All-contains (λ q. q.number < s.next) sent p run.below has))
     (All-contains (λ q. is_skipped s.skipped q.number ≡ false) sent p run.used has)
 
--- Where the phase begins: no update is later, and each packet is from there on, or before the last update.
-record Begins (s : Sender) (life : Life) (sent : List Sent) : Type 0 where
-  begun : All (λ u. u.first ≤ s.first_of_phase) life.updates
-  order : s.first_of_phase ≤ s.next
-  below : All (λ p. p.number < s.next) sent
-  each : All (λ p. (s.first_of_phase ≤ p.number) ⊎ (updates_before life.updates p.number < length life.updates)) sent
-
-earlier : (u : Update) (us : List Update) (n : ℕ) → n < u.first → updates_before (u ∷ us) n < length (u ∷ us)
-earlier u us n lt = rw (lt-leb u.first n lt) (omega (arith, before-le us n))
-
-begins_at : (s : Sender) (life : Life) (sent : List Sent) → HasSent s life sent → Begins s life sent
-begins_at s life sent (begins version key header_key secret from) = record {
-  begun = All-nil (λ u. u.first ≤ from);
-  order = omega arith;
-  below = All-nil (λ p. p.number < from);
-  each = All-nil _;
-}
-begins_at t l ps (sends s life sent fixed_bit start end packet wire sealable turn is before) =
-    let was = begins_at s life sent before in
-    record {
-      begun = was.begun;
-      order = omega (arith, was.order);
-      below = All-cons (λ p. p.number < s.next + 1) _ sent (omega arith)
-          (All-weaker (λ p. p.number < s.next) (λ p. p.number < s.next + 1) (λ p h. omega arith) sent was.below);
-      each = All-cons (λ p. (s.first_of_phase ≤ p.number) ⊎ (updates_before life.updates p.number < length life.updates)) _ sent
-          (inl was.order) was.each;
-    }
-begins_at t l ps (skips s life sent number le before) =
-    let was = begins_at s life sent before in
-    record {
-      begun = was.begun;
-      order = omega (arith, was.order);
-      below = All-weaker (λ p. p.number < s.next) (λ p. p.number < number) (λ p h. omega arith) sent was.below;
-      each = was.each;
-    }
-begins_at t l ps (updates s life sent key secret before) =
-    let was = begins_at s life sent before in
-    let u : Update = record { key = key; first = s.next } in
-    record {
-      begun = All-cons (λ x. x.first ≤ s.next) u life.updates (omega arith)
-          (All-weaker (λ x. x.first ≤ s.first_of_phase) (λ x. x.first ≤ s.next) (λ x h. omega (arith, was.order)) life.updates was.begun);
-      order = omega arith;
-      below = was.below;
-      each = All-weaker (λ p. p.number < s.next)
-          (λ p. (s.next ≤ p.number) ⊎ (updates_before (u ∷ life.updates) p.number < length (u ∷ life.updates)))
-          (λ p lt. inr (earlier u life.updates p.number lt)) sent was.below;
-    }
-begins_at t l ps (hears s life sent number below before) =
-    let was = begins_at s life sent before in
-    record { begun = was.begun; order = was.order; below = was.below; each = was.each }
-begins_at t l ps (confirms s life sent before) =
-    let was = begins_at s life sent before in
-    record { begun = was.begun; order = was.order; below = was.below; each = was.each }
-begins_at t l ps (lowers s life sent limit before) =
-    let was = begins_at s life sent before in
-    record { begun = was.begun; order = was.order; below = was.below; each = was.each }
-
 -- of two facts, the first if the second is false
 first_of : (A B : Type 0) → (A ⊎ B) → (B → ⊥) → A
 first_of A B (inl a) not = a
@@ -181,10 +157,9 @@ first_of A B (inr b) not = absurd (not b)
 pub of_phase : (s : Sender) (life : Life) (sent : List Sent) (p : Sent) → HasSent s life sent → Contains sent p
     → (updates_before life.updates p.number ≡ length life.updates) ↔ (s.first_of_phase ≤ p.number)
 of_phase s life sent p calls has =
-    let at = begins_at s life sent calls in (
+    let run = run_of s life sent calls in (
       λ all. first_of (s.first_of_phase ≤ p.number) (updates_before life.updates p.number < length life.updates)
-          (All-contains (λ q. (s.first_of_phase ≤ q.number) ⊎ (updates_before life.updates q.number < length life.updates)) sent p at.each has)
+          (All-contains (λ q. (s.first_of_phase ≤ q.number) ⊎ (updates_before life.updates q.number < length life.updates)) sent p run.phases has)
           (λ lt. omega (arith, all, lt)),
-      λ from. before_all life.updates p.number
-          (All-weaker (λ u. u.first ≤ s.first_of_phase) (λ u. u.first ≤ p.number) (λ u h. omega arith) life.updates at.begun),
+      λ from. before_all life.updates p.number (still_begun life s.first_of_phase p.number from run.phase_begun),
     )

@@ -12,10 +12,10 @@ use Rattle.quic_packets.specs.declared.receiver.Received.{Received}
 use Rattle.quic_packets.proofs.PartLemmas.{kept, outside, part_of}
 
 -- a packet that is opened isn't counted
-uncounted : (r : Receiver) (s : Space) (f : Failures) (first : ℕ) (o : Received) (e : ReceiveError) → AdmitRefuses r s first o e
+opened_uncounted : (r : Receiver) (s : Space) (f : Failures) (first : ℕ) (o : Received) (e : ReceiveError) → AdmitRefuses r s first o e
     → f ≡ failures_after f (Err e)
-uncounted r s f first o Refused why = absurd why
-uncounted r s f first o e why = refl
+opened_uncounted r s f first o Refused why = absurd why
+opened_uncounted r s f first o e why = refl
 
 of_opened : (r : Receiver) (s : Space) (first : ℕ) (o : Received) (e : ReceiveError) → AdmitRefuses r s first o e → is_of_opened e ≡ true
 of_opened r s first o ReservedBits why = refl
@@ -88,7 +88,7 @@ module _ (r : Receiver) (s : Space) (f : Failures) (parts : Packet) (old : List 
       });
       payload = tt;
       marked = tt;
-      counted = uncounted r s f first o e why;
+      counted = opened_uncounted r s f first o e why;
       kept = same;
       bytes_kept = λ early. absurd (let late = of_opened r s first o e why in cc);
       outside = outside parts.start parts.end old part ordered able.within whole;

@@ -1,4 +1,4 @@
--- A packet is refused for one reason, and for none if it is sent.
+-- No two reasons to refuse a packet hold at once, and none holds for a packet that may be sent or that is received.
 use Rattle.std.proofs.Common.{◌≡◌, ℕ, inl, inr, List, arith, refl, rules, get_or}
 use Rattle.std.proofs.lemmas.Grind.{common_steps}
 use Rattle.key_derivation.specs.declared.quic.Version.{Version}
@@ -48,7 +48,7 @@ one s fixed_bit start end packet e f (inl d) (inr d') = absurd (not_sealable s.v
 one s fixed_bit start end packet e f (inr d) (inl d') = absurd (not_sealable s.version fixed_bit start end packet f d' d.0)
 one s fixed_bit start end packet e f (inr d) (inr d') = one_of_number s start end e f d.1 d'.1
 
--- and for none if the packet can be sent
+-- no reason holds for a packet that may be sent
 pub none : (s : Sender) (fixed_bit : FixedBit) (start end : ℕ) (packet : List ℕ) (e : SendError)
     → SenderRefuses s fixed_bit start end packet e → IsSealable s.version fixed_bit start end packet × IsInTurn s start end → ⊥
 none s fixed_bit start end packet e (inl d) is = not_sealable s.version fixed_bit start end packet e d is.0
@@ -57,7 +57,7 @@ none s fixed_bit start end packet e (inr d) is = not_in_turn s start end e d.1 i
 -- Receiving.
 
 module _ (r : Receiver) (f : Failures) (parts : Packet) (len : ℕ) where
-  -- a packet isn't read for one reason
+  -- no two reasons not to read a packet hold at once
   pub one_early : (e e' : ReceiveError) → EarlyRefuses r f parts len e → EarlyRefuses r f parts len e' → e ≡ e'
   one_early TooManyFailures TooManyFailures d d' = refl
   one_early PastEnd PastEnd d d' = refl
@@ -71,7 +71,7 @@ module _ (r : Receiver) (f : Failures) (parts : Packet) (len : ℕ) where
   not_readable e d is = first_of (search rules, grind (arith, common_steps))
 
 module _ (r : Receiver) (s : Space) (start number_at : ℕ) (plain : List ℕ) (number : ℕ) where
-  -- a packet that is read isn't received for one reason
+  -- no two reasons not to receive a packet that is read hold at once
   pub one_late : (e e' : ReceiveError) → ReadRefuses r s start number_at plain number e
       → ReadRefuses r s start number_at plain number e' → e ≡ e'
   one_late TooLongError TooLongError d d' = refl

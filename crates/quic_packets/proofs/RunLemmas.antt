@@ -37,14 +37,12 @@ long_bit first false long = not_that first 0x04 long refl
 same_bit : (first : ℕ) (b c : Bool) → HasPhase first b → b ≡ c → (bit_and first 0x84 == (if c then 0x00 else 0x04)) ≡ false
 same_bit first true true is e = ap (λ v. v == 0x00) is
 same_bit first false false is e = ap (λ v. v == 0x04) is
-same_bit first true false is e = cc
-same_bit first false true is e = cc
+same_bit first b c is e = cc
 
 other_bit : (first : ℕ) (b c : Bool) → HasPhase first b → b ≡ not c → (bit_and first 0x84 == (if c then 0x00 else 0x04)) ≡ true
 other_bit first false true is e = ap (λ v. v == 0x00) is
 other_bit first true false is e = ap (λ v. v == 0x04) is
-other_bit first true true is e = cc
-other_bit first false false is e = cc
+other_bit first b c is e = cc
 
 not_back : (b c : Bool) → c ≡ not b → b ≡ not c
 not_back true c e = sym (ap not e)

@@ -23,9 +23,8 @@ below_more a b [] le is = tt
 below_more a b (gap ∷ gaps) le is = (omega (arith, is.0), omega (arith, is.1), below_more a b gaps le is.2)
 
 below_take : (k top : ℕ) (gaps : List Gap) → IsBelow top gaps → IsBelow top (take k gaps)
-below_take zero top gaps is = tt
-below_take (suc k) top [] is = tt
 below_take (suc k) top (gap ∷ gaps) is = (is.0, is.1, below_take k top gaps is.2)
+below_take k top gaps is = tt
 
 -- a number that is in no range
 over : (n : ℕ) (gap : Gap) → gap.end ≤ n → is_in_gap n gap ≡ false
@@ -65,11 +64,10 @@ joined (suc k) n (gap ∷ gaps) front back =
     or_from (is_in_gap n gap) (is_skipped gaps n) parts.0 (joined k n gaps parts.1 back)
 
 taken : (k n : ℕ) (gaps : List Gap) → is_skipped gaps n ≡ false → is_skipped (take k gaps) n ≡ false
-taken zero n gaps free = refl
-taken (suc k) n [] free = refl
 taken (suc k) n (gap ∷ gaps) free =
     let parts = or_parts (is_in_gap n gap) (is_skipped gaps n) free in
     or_from (is_in_gap n gap) (is_skipped (take k gaps) n) parts.0 (taken k n gaps parts.1)
+taken k n gaps free = refl
 
 -- After a skip from `s` up to `e`.
 abbrev longer : Gap → ℕ → Gap

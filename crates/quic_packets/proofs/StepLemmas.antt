@@ -46,7 +46,7 @@ some_of (Some r) is = (r, refl)
 some_of None is = absurd cc
 
 -- a result of a receiver that is there before and after
-pub tried_at : (T : Receiver → Receiver → Type 0) (o o' : Option Receiver) (r : Receiver) → o ≡ Some r → IsSome o'
+tried_at : (T : Receiver → Receiver → Type 0) (o o' : Option Receiver) (r : Receiver) → o ≡ Some r → IsSome o'
     → IfSome o (λ r. IfSome o' (λ r'. T r r')) → T r (unwrap_or o' r)
 tried_at T o (Some r') r is some both = subst (λ o. IfSome o (λ r. T r r')) is both
 tried_at T o None r is some both = absurd cc
@@ -54,14 +54,14 @@ tried_at T o None r is some both = absurd cc
 module _ (c : Connection) (id_len : ℕ) (id datagram : List ℕ) (at : ℕ) (parts : Packet)
     (parsed : packet_of c.fixed_bit id_len datagram at ≡ Ok parts) where
   -- there is one packet at a byte
-  pub same_parts : (p : Packet) → IsPacketAt c id_len id datagram at p → p ≡ parts
+  same_parts : (p : Packet) → IsPacketAt c id_len id datagram at p → p ≡ parts
   same_parts p is = let its : packet_of c.fixed_bit id_len datagram at ≡ Ok p = is.parsed in cc
 
   -- it isn't the connection's, or its keys were dropped
   abbrev IsOther : Type 0
   IsOther = IsOwn id datagram parts → IsFalse (is_discarded c parts.packet_type) → ⊥
 
-  pub not_own : IsOther → (p : Packet) → IsPacketAt c id_len id datagram at p → ⊥
+  not_own : IsOther → (p : Packet) → IsPacketAt c id_len id datagram at p → ⊥
   not_own other p is =
       let same = same_parts p is in
       other (subst (IsOwn id datagram) same is.own) (subst (λ p. IsFalse (is_discarded c p.packet_type)) same is.undropped)

@@ -45,10 +45,8 @@ abbrev Encodes : (log value : ℕ) → Type 0
 Encodes log value = value < 2 ^ (8 * 2 ^ log - 2)
 
 first_byte : (log value : ℕ) → log ≤ 2 → Encodes log value → get_or (integer log value) 0 0 / 2 ^ 6 ≡ log
-first_byte zero value few fits = omega arith
-first_byte (suc zero) value few fits = omega arith
-first_byte (suc (suc zero)) value few fits = omega arith
 first_byte (suc (suc (suc n))) value few fits = absurd (omega arith)
+first_byte log value few fits = omega arith
 
 value_of : (log value : ℕ) → log ≤ 2 → Encodes log value → number_from_digits 256 (integer log value) % 2 ^ (8 * 2 ^ log - 2) ≡ value
 value_of zero value few fits = ap (λ n. n % 64) (bytes_read 1 (0 + value) 0) ∙ omega arith
@@ -277,19 +275,13 @@ first_bits bits m few is = omega (arith, is.some, is.few)
 
 header_few : (version : Version) (kind : LongType) → header_bits version kind < 4
 header_few One (Initial token) = omega arith
-header_few One ZeroRtt = omega arith
-header_few One Handshake = omega arith
 header_few Two (Initial token) = omega arith
-header_few Two ZeroRtt = omega arith
-header_few Two Handshake = omega arith
+header_few version kind = omega arith
 
 type_back : (version : Version) (kind : LongType) → type_of version (header_bits version kind) ≡ packet_type_of kind
 type_back One (Initial token) = refl
-type_back One ZeroRtt = refl
-type_back One Handshake = refl
 type_back Two (Initial token) = refl
-type_back Two ZeroRtt = refl
-type_back Two Handshake = refl
+type_back version kind = refl
 
 type_is : (version : Version) (kind : LongType) (m : ℕ) → IsNumberLen m
     → type_of version (bits_of (long_first_byte (header_bits version kind) m)) ≡ packet_type_of kind

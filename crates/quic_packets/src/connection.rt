@@ -6,10 +6,10 @@
 
 ghost use Rattle.std.specs.Prelude.{◌≡◌, ◌-◌, ◌^◌, ◌<◌, ◌≤◌, ◌↔◌, ◌&&◌, false, true, min, length, if◌then◌else◌, Some, None, IsFalse, IsTrue, IsSome, IfSome, IsOk, IfOk, IfErr, IsErrOf, OnOk, OnErr};
 ghost use Rattle.std.specs.Option.{option_copied};
-ghost use Rattle.quic_packets.specs.Connection.{IsOwn, IsToOpen, IsUnopened, end_of, ends_of, has_keys, after_sending, kept_at, is_discarded, is_one_rtt, receiver_of, sender_after, space_of, update_after, updates_after, with_ends, with_receiver, with_sender, StepOutcome};
-ghost use Rattle.quic_packets.specs.Ends.{Installs, after_discard, confirmed, forgotten, initiated, installed, is_confirmed, may_update, no_ends, prepared, sent, EndOutcome};
+ghost use Rattle.quic_packets.specs.Connection.{IsOwn, IsToOpen, IsUnopened, StepOutcome, end_of, ends_of, has_keys, after_sending, kept_at, is_discarded, is_one_rtt, receiver_of, sender_after, space_of, update_after, updates_after, with_ends, with_receiver, with_sender};
+ghost use Rattle.quic_packets.specs.Ends.{EndOutcome, Installs, after_discard, confirmed, forgotten, initiated, installed, is_confirmed, may_update, no_ends, prepared, sent};
 ghost use Rattle.quic_packets.specs.Keys.{secret_header_key, secret_key};
-ghost use Rattle.quic_packets.specs.Receiving.{new_receiver, ReceiveOutcome};
+ghost use Rattle.quic_packets.specs.Receiving.{ReceiveOutcome, new_receiver};
 ghost use Rattle.quic_packets.specs.Sending.{IsUnanswered, after_acknowledgement, after_skip, is_unsent};
 ghost use Rattle.quic_packets.specs.declared.fixed_bit.FixedBit.TheVariants.{Required};
 

@@ -12,7 +12,7 @@ ghost use Rattle.quic_packets.specs.HeaderBytes.{HasLongParts, HasShortParts, Is
 ghost use Rattle.quic_packets.specs.Laws.{OpensTo};
 ghost use Rattle.quic_packets.specs.Keys.{PacketKey as PacketKeyState, secret_key};
 ghost use Rattle.quic_packets.specs.Numbers.{InWindow, IsAbove, IsDecoded, Represents, expected, unacknowledged};
-ghost use Rattle.quic_packets.specs.Sending.{Runs, after_acknowledgement, header_version, is_unsent, IsInTurn, IsSealable, SenderRefuses};
+ghost use Rattle.quic_packets.specs.Sending.{IsInTurn, IsSealable, Runs, SenderRefuses, after_acknowledgement, header_version, is_unsent};
 ghost use Rattle.quic_packets.specs.Space.{Space as SpaceState};
 ghost use Rattle.quic_packets.specs.Versions.{is_other_version};
 ghost use Rattle.quic_packets.specs.Packet.{HasNumber, IsNumber, low_bytes};

@@ -8,7 +8,7 @@ ghost use Rattle.quic_packets.specs.Header.{HasSample};
 ghost use Rattle.quic_packets.specs.Keys.{header_key, packet_key, secret_header_key, secret_key};
 ghost use Rattle.quic_packets.specs.Numbers.{expected};
 ghost use Rattle.quic_packets.specs.Packet.{IsNumber};
-ghost use Rattle.quic_packets.specs.Receiving.{IsInTurn, Opening, Reads, highest_before, is_other_phase, key_of, new_receiver, opening_key, received, updated, with_next, AdmitRefuses, IsAdmitted, ReceiveOutcome, EarlyRefuses, IsReadable};
+ghost use Rattle.quic_packets.specs.Receiving.{AdmitRefuses, EarlyRefuses, IsAdmitted, IsInTurn, IsReadable, Opening, Reads, ReceiveOutcome, highest_before, is_other_phase, key_of, new_receiver, opening_key, received, updated, with_next};
 ghost use Rattle.quic_packets.specs.Sending.{HasKeyLengths};
 ghost use Rattle.quic_packets.specs.Space.{Marks};
 ghost use Rattle.quic_packets.specs.Versions.{is_other_version};

@@ -4,7 +4,7 @@ ghost use Rattle.std.specs.Prelude.{◌≡◌, ℕ, ◌≢◌, ◌+◌, ◌-◌,
 ghost use Rattle.aead_ciphers.specs.Algorithm.{key_len};
 ghost use Rattle.quic_packets.specs.Keys.{header_key, packet_key, secret_header_key, secret_key};
 ghost use Rattle.quic_packets.specs.Packet.{IsNumber};
-ghost use Rattle.quic_packets.specs.Sending.{HasKeyLengths, IsEncodable, IsInTurn, IsRoom, IsSealable, after_acknowledgement, after_send, after_skip, after_update, first_byte, header_version, is_retry_or_version_negotiation, new_sender, numbered_packet, with_installed_keys, IsUnanswered, after_derived_update, is_unsent, NumberRefuses, PacketRefuses, SendOutcome, SenderRefuses};
+ghost use Rattle.quic_packets.specs.Sending.{HasKeyLengths, IsEncodable, IsInTurn, IsRoom, IsSealable, IsUnanswered, NumberRefuses, PacketRefuses, SendOutcome, SenderRefuses, after_acknowledgement, after_send, after_skip, after_update, first_byte, header_version, is_retry_or_version_negotiation, new_sender, numbered_packet, with_installed_keys, after_derived_update, is_unsent};
 ghost use Rattle.quic_packets.specs.Versions.{is_other_version};
 
 use crate::datagram::version;

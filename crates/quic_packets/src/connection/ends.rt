@@ -2,9 +2,9 @@
 
 ghost use Rattle.std.specs.Prelude.{◌≡◌, ◌^◌, ◌<◌, ◌≤◌, ◌↔◌, false, Some, None, IsFalse, IsTrue, IsSome, IfSome, IsOk, IsErrOf, IsOkUnless, OnOk, OnErr};
 ghost use Rattle.std.specs.Option.{option_copied};
-ghost use Rattle.quic_packets.specs.Ends.{Installs, after_discard, confirmed, following, forgotten, in_phase, initiated, installed, is_confirmed, is_due, kept_back, may_update, no_ends, peer_update, phase_of, renewed, renews, sent, update_into, with_next_key, EndOutcome};
+ghost use Rattle.quic_packets.specs.Ends.{EndOutcome, Installs, after_discard, confirmed, following, forgotten, in_phase, initiated, installed, is_confirmed, is_due, kept_back, may_update, no_ends, peer_update, phase_of, renewed, renews, sent, update_into, with_next_key};
 ghost use Rattle.quic_packets.specs.Keys.{secret_header_key, secret_key};
-ghost use Rattle.quic_packets.specs.Receiving.{new_receiver, ReceiveOutcome};
+ghost use Rattle.quic_packets.specs.Receiving.{ReceiveOutcome, new_receiver};
 ghost use Rattle.quic_packets.specs.Sending.{IsUnanswered, after_acknowledgement, after_skip, is_unsent};
 
 use crate::connection::incoming::{Opened, PeerUpdate};
