@@ -16,7 +16,7 @@ use Rattle.records.specs.declared.connection.receive_error.ReceiveError.{Receive
 use Rattle.records.specs.declared.connection.receive_error.ReceiveError.TheVariants.{Message, OutOfMemory, Record, TooManyKeyUpdates}
 use Rattle.records.specs.declared.content_type.ContentType.{ContentType}
 use Rattle.records.specs.declared.record_error.RecordError.{RecordError}
-use Rattle.records.specs.declared.content_type.ContentType.TheVariants.{Alert, ApplicationData, Handshake}
+use Rattle.records.specs.declared.content_type.ContentType.TheVariants.{Alert, ApplicationData}
 use Rattle.std.specs.Borrow.{Bor}
 use Rattle.std.proofs.Common.{Option, Result}
 use Rattle.tls_messages.specs.Messages.{Begins, Joining, IsExpected, IsMessage, IsPart, IsTaken, messages_of, part_of}
@@ -128,9 +128,8 @@ alert_len was now bytes content r =
 -- a content that brings nothing is no rejected record
 no_record : (capacity : ℕ) (content_type : ContentType) (content : List ℕ) (was now : Receiving) (error : RecordError)
     → FailsToBring capacity content_type content was (Record error) now → ⊥
-no_record capacity ApplicationData content was now error fails = fails.0
-no_record capacity Handshake content was now error fails = fails.0
 no_record capacity Alert content was now error fails = fails.0
+no_record capacity content_type content was now error fails = fails.0
 
 pub fails_to_bring : (capacity : ℕ) (was now : Receiving) (bytes content : List ℕ) (content_type : ContentType) (read : ReaderState)
     (error : ReceiveError) → Reads was.reader read bytes (Ok (content_type, content))

@@ -184,8 +184,7 @@ joined_to content_type room padding content (suc i) =
 allowed_room : (size_limit padding n : ℕ) (content_type : ContentType) → IsAllowed size_limit content_type (least_piece content_type n) padding
     → n ≢ 0 → 0 < piece_room size_limit padding
 allowed_room size_limit padding n Alert a some = let fits = a.fits in omega arith
-allowed_room size_limit padding n Handshake a some = let fits = a.fits in omega arith
-allowed_room size_limit padding n ApplicationData a some = let fits = a.fits in omega arith
+allowed_room size_limit padding n content_type a some = let fits = a.fits in omega arith
 
 -- the pieces joined are the content
 pub joined : (content_type : ContentType) (size_limit padding : ℕ) (content : List ℕ)

@@ -23,19 +23,13 @@ length-plaintext content code padding = simp (length-append, length-replicate) (
 
 typed : (t : ContentType) → type_code t ≢ 0
 typed Alert e = absurd (omega arith)
-typed Handshake e = absurd (omega arith)
-typed ApplicationData e = absurd (omega arith)
+typed content_type e = absurd (omega arith)
 
 same_type : (s t : ContentType) → type_code s ≡ type_code t → s ≡ t
 same_type Alert Alert e = refl
 same_type Handshake Handshake e = refl
 same_type ApplicationData ApplicationData e = refl
-same_type Alert Handshake e = absurd (omega arith)
-same_type Alert ApplicationData e = absurd (omega arith)
-same_type Handshake Alert e = absurd (omega arith)
-same_type Handshake ApplicationData e = absurd (omega arith)
-same_type ApplicationData Alert e = absurd (omega arith)
-same_type ApplicationData Handshake e = absurd (omega arith)
+same_type s t e = absurd (omega arith)
 
 -- what ends with a type is zeros only where the type is
 zeros_type : (content : List ℕ) (content_type padding n : ℕ) → content ++ content_type ∷ replicate padding 0 ≡ replicate n 0 → content_type ≡ 0

@@ -21,11 +21,11 @@ use std::marker::Model;
 ///
 /// # Examples
 ///
-/// Writes a KeyUpdate, and continues under the next key. From `crates/records/src/connection.rt`:
+/// Writes a record. From `crates/records_tests/src/tests/connection.rt`:
 ///
 /// ```
-/// writer.write(ContentType::Handshake, &request.message(), 0, out)?;
-/// writer.update()
+/// let mut written = Vec::new(alloc);
+/// writer.write(content_type, &content, carried.padding, &mut written)?;
 /// ```
 #[derive(Drop)]
 pub struct Writer {
