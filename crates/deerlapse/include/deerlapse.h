@@ -106,7 +106,7 @@ bool deerlapse_key_init(deerlapse_key *key, const uint8_t *bytes, size_t len);
 /* Encrypts in place with AES-128-GCM or AES-256-GCM, and writes the tag (SP 800-38D algorithm 4).
  *
  *   key      initialized by deerlapse_key_init, or zeros
- *   nonce    12 bytes, never used twice under one key: a counter is safe, and a sealer (below) keeps one. A nonce that is
+ *   nonce    12 bytes, never used twice under one key: a counter is safe, and a deerlapse_sealer keeps one. A nonce that is
  *            used twice reveals the XOR of the two messages, and lets others forge tags under the key
  *   aad      aad_len bytes, which are authenticated but not encrypted
  *   in_out   in_out_len bytes: the message, which the ciphertext replaces
@@ -124,9 +124,11 @@ bool deerlapse_key_seal(const deerlapse_key *key, const uint8_t nonce[DEERLAPSE_
  *   in_out            in_out_len bytes: `start` bytes of anything, the ciphertext and the tag
  *   plaintext_len     written on success: in_out_len - 16 - start
  *
+ * aad must not be in in_out, not even before `start`. For a header before its ciphertext, pass the pointer after the header,
+ * and 0 for `start`.
+ *
  * Returns false if the tag is wrong, if there are fewer than 16 bytes from `start` on, if the key is zeros, or if the
- * ciphertext or the AAD is longer than deerlapse_key_seal takes. aad must not be in in_out, not even before `start`. For a
- * header before its ciphertext, pass the pointer after the header, and 0 for `start`. */
+ * ciphertext or the AAD is longer than deerlapse_key_seal takes. */
 DEERLAPSE_NODISCARD
 bool deerlapse_key_open(const deerlapse_key *key, const uint8_t nonce[DEERLAPSE_NONCE_LEN], const uint8_t *aad,
                         size_t aad_len, uint8_t *in_out, size_t in_out_len, size_t start, size_t *plaintext_len);
@@ -149,7 +151,7 @@ bool deerlapse_key_open_separate_tag(const deerlapse_key *key, const uint8_t non
  *   in    in_len bytes: the message, or the ciphertext
  *   out   in_len bytes, which must not overlap `in`, unless it is the same pointer
  *
- * Return false if those calls do. */
+ * Return false if the call in place does. */
 DEERLAPSE_WRAPS(1, 2, 8)
 bool deerlapse_key_seal_to(const deerlapse_key *key, const uint8_t nonce[DEERLAPSE_NONCE_LEN], const uint8_t *aad,
                            size_t aad_len, const uint8_t *in, size_t in_len, uint8_t *out,
@@ -159,13 +161,14 @@ bool deerlapse_key_open_to(const deerlapse_key *key, const uint8_t nonce[DEERLAP
                            size_t aad_len, const uint8_t *in, size_t in_len, uint8_t *out,
                            const uint8_t tag[DEERLAPSE_TAG_LEN]);
 
-/* Do the same with the tag after the ciphertext: sealing writes both to `out`, and opening reads both from `in`.
+/* Do the same as deerlapse_key_seal_to and deerlapse_key_open_to with the tag after the ciphertext: sealing writes both to
+ * `out`, and opening reads both from `in`.
  *
  *   in    in_len bytes: the message, or the ciphertext and its tag
  *   out   in_len + 16 bytes for sealing, in_len - 16 bytes for opening, which must not overlap `in`, unless it is the same
  *         pointer
  *
- * Return false if those calls do. Opening also does if in_len is below 16. */
+ * Return false if those with a separate tag do. Opening also does if in_len is below 16. */
 DEERLAPSE_WRAPS(1, 2, 7)
 bool deerlapse_key_seal_append_tag(const deerlapse_key *key, const uint8_t nonce[DEERLAPSE_NONCE_LEN],
                                    const uint8_t *aad, size_t aad_len, const uint8_t *in, size_t in_len,
@@ -176,8 +179,9 @@ bool deerlapse_key_open_appended_tag(const deerlapse_key *key, const uint8_t non
                                      uint8_t *out);
 
 /* The four calls above are inline, and call these, or if `in` and `out` are the same pointer the calls in place. These take
- * the length of `out`, and also return false if it is another than the one above. No pointer may be null. A program without
- * deerlapse.h calls these. */
+ * the length of `out`. No pointer may be null. A program without deerlapse.h calls these.
+ *
+ * Return false if the inline calls do, or if out_len is another length than that of their `out`. */
 DEERLAPSE_NODISCARD
 bool deerlapse_key_seal_to_sized(const deerlapse_key *key, const uint8_t nonce[DEERLAPSE_NONCE_LEN],
                                  const uint8_t *aad, size_t aad_len, const uint8_t *in, size_t in_len, uint8_t *out,
@@ -243,7 +247,7 @@ void deerlapse_key_wipe(deerlapse_key *key);
 /* Do the same as deerlapse_key_seal and deerlapse_key_open under a key of key_len bytes, 16 or 32, which is expanded for
  * this message only.
  *
- * Return false if key_len is neither 16 nor 32, or if those calls do. */
+ * Return false if key_len is neither 16 nor 32, or if the call under a deerlapse_key does. */
 DEERLAPSE_NODISCARD
 bool deerlapse_seal(const uint8_t *key, size_t key_len, const uint8_t nonce[DEERLAPSE_NONCE_LEN],
                     const uint8_t *aad, size_t aad_len, uint8_t *in_out, size_t in_out_len,
@@ -277,7 +281,7 @@ void deerlapse_xaes_init(deerlapse_xaes *key, const uint8_t bytes[DEERLAPSE_XAES
  *   key     initialized by deerlapse_xaes_init, or zeros
  *   nonce   24 bytes, never used twice under one key: random bytes for each message
  *
- * Return false if those calls do. */
+ * Return false if the call under a deerlapse_key does. */
 DEERLAPSE_NODISCARD
 bool deerlapse_xaes_seal(const deerlapse_xaes *key, const uint8_t nonce[DEERLAPSE_XAES_NONCE_LEN], const uint8_t *aad,
                          size_t aad_len, uint8_t *in_out, size_t in_out_len, uint8_t tag[DEERLAPSE_TAG_LEN]);
@@ -305,7 +309,9 @@ bool deerlapse_xaes_open_appended_tag(const deerlapse_xaes *key, const uint8_t n
                                       const uint8_t *aad, size_t aad_len, const uint8_t *in, size_t in_len,
                                       uint8_t *out);
 
-/* The last four are inline, as those of a deerlapse_key are, and call these with the length of `out`. */
+/* The last four are inline, as those of a deerlapse_key are, and call these with the length of `out`.
+ *
+ * Return false if the inline calls do, or if out_len is another length than that of their `out`. */
 DEERLAPSE_NODISCARD
 bool deerlapse_xaes_seal_to_sized(const deerlapse_xaes *key, const uint8_t nonce[DEERLAPSE_XAES_NONCE_LEN],
                                   const uint8_t *aad, size_t aad_len, const uint8_t *in, size_t in_len, uint8_t *out,
@@ -377,7 +383,9 @@ typedef struct deerlapse_opener {
     uint64_t words[430]; /* private: neither read nor write them */
 } deerlapse_opener;
 
-/* Initializes an opener, as deerlapse_sealer_init does a sealer. */
+/* Initializes an opener, as deerlapse_sealer_init does a sealer.
+ *
+ * Returns false if key_len is neither 16 nor 32, or if first is above limit. The opener is then unchanged. */
 DEERLAPSE_NODISCARD
 bool deerlapse_opener_init(deerlapse_opener *opener, const uint8_t *key, size_t key_len,
                            const uint8_t iv[DEERLAPSE_NONCE_LEN], uint64_t first, uint64_t limit);
@@ -456,7 +464,8 @@ bool deerlapse_hkdf_expand(const uint8_t *prk, size_t prk_len, const uint8_t *in
  *   context   context_len bytes, at most 255
  *   out       out_len bytes, which are written: at most 255 * secret_len
  *
- * Returns false for any other length. */
+ * Returns false if secret_len is neither 32 nor 48, if label_len is 0 or above 249, if context_len is above 255, or if out_len
+ * is above 255 * secret_len. */
 DEERLAPSE_NODISCARD
 bool deerlapse_hkdf_expand_label(const uint8_t *secret, size_t secret_len, const uint8_t *label, size_t label_len,
                                  const uint8_t *context, size_t context_len, uint8_t *out, size_t out_len);
@@ -487,7 +496,7 @@ bool deerlapse_quic_key_init(deerlapse_quic_key *key, const uint8_t *bytes, size
  *   version   DEERLAPSE_QUIC_V1 or DEERLAPSE_QUIC_V2
  *   secret    secret_len bytes: 32 for TLS_AES_128_GCM_SHA256, 48 for TLS_AES_256_GCM_SHA384
  *
- * Returns false for any other version or length. */
+ * Returns false if version is neither DEERLAPSE_QUIC_V1 nor DEERLAPSE_QUIC_V2, or if secret_len is neither 32 nor 48. */
 DEERLAPSE_NODISCARD
 bool deerlapse_quic_key_from_secret(deerlapse_quic_key *key, uint32_t version, const uint8_t *secret, size_t secret_len);
 
@@ -499,7 +508,7 @@ bool deerlapse_quic_key_from_secret(deerlapse_quic_key *key, uint32_t version, c
  *   client    32 bytes, which are written
  *   server    32 bytes, which are written
  *
- * Returns false for any other version or length. */
+ * Returns false if version is neither DEERLAPSE_QUIC_V1 nor DEERLAPSE_QUIC_V2, or if id_len is above 20. */
 DEERLAPSE_NODISCARD
 bool deerlapse_quic_initial_secrets(uint32_t version, const uint8_t *id, size_t id_len,
                                     uint8_t client[DEERLAPSE_SHA256_LEN], uint8_t server[DEERLAPSE_SHA256_LEN]);
@@ -508,7 +517,7 @@ bool deerlapse_quic_initial_secrets(uint32_t version, const uint8_t *id, size_t 
  *
  *   version, secret   as for deerlapse_quic_key_from_secret
  *
- * Returns false if that call does. */
+ * Returns false if version is neither DEERLAPSE_QUIC_V1 nor DEERLAPSE_QUIC_V2, or if secret_len is neither 32 nor 48. */
 DEERLAPSE_NODISCARD
 bool deerlapse_quic_next_secret(uint32_t version, uint8_t *secret, size_t secret_len);
 
@@ -563,7 +572,7 @@ bool deerlapse_quic_header_key_init(deerlapse_quic_header_key *key, const uint8_
  *
  *   version, secret   as for deerlapse_quic_key_from_secret
  *
- * Returns false if that call does. */
+ * Returns false if version is neither DEERLAPSE_QUIC_V1 nor DEERLAPSE_QUIC_V2, or if secret_len is neither 32 nor 48. */
 DEERLAPSE_NODISCARD
 bool deerlapse_quic_header_key_from_secret(deerlapse_quic_header_key *key, uint32_t version, const uint8_t *secret,
                                            size_t secret_len);
@@ -581,13 +590,16 @@ bool deerlapse_quic_header_key_mask(const deerlapse_quic_header_key *key, const 
 DEERLAPSE_CALL
 void deerlapse_quic_header_key_wipe(deerlapse_quic_header_key *key);
 
-/* The same for the records of TLS 1.3 (RFC 8446 section 5.2). What is said of a deerlapse_quic_key holds for it; how many
- * records a key may seal is in RFC 8446 section 5.5. */
+/* A key and an IV that protect the records of TLS 1.3 in one direction by their numbers (RFC 8446 section 5.2). What is said of
+ * the memory, the threads and the numbers of a deerlapse_quic_key holds for it; how many records a key may seal is in RFC 8446
+ * section 5.5. */
 typedef struct deerlapse_record_key {
     uint64_t words[401]; /* private: neither read nor write them */
 } deerlapse_record_key;
 
-/* Initializes a key, as deerlapse_quic_key_init does. */
+/* Initializes a key, as deerlapse_quic_key_init does.
+ *
+ * Returns false if len is neither 16 nor 32. */
 DEERLAPSE_NODISCARD
 bool deerlapse_record_key_init(deerlapse_record_key *key, const uint8_t *bytes, size_t len,
                                const uint8_t iv[DEERLAPSE_NONCE_LEN]);
@@ -596,7 +608,7 @@ bool deerlapse_record_key_init(deerlapse_record_key *key, const uint8_t *bytes, 
  *
  *   secret   secret_len bytes: 32 for TLS_AES_128_GCM_SHA256, 48 for TLS_AES_256_GCM_SHA384
  *
- * Returns false for any other length. */
+ * Returns false if secret_len is neither 32 nor 48. */
 DEERLAPSE_NODISCARD
 bool deerlapse_record_key_from_secret(deerlapse_record_key *key, const uint8_t *secret, size_t secret_len);
 
@@ -604,7 +616,7 @@ bool deerlapse_record_key_from_secret(deerlapse_record_key *key, const uint8_t *
  *
  *   secret   as for deerlapse_record_key_from_secret
  *
- * Returns false if that call does. */
+ * Returns false if secret_len is neither 32 nor 48. */
 DEERLAPSE_NODISCARD
 bool deerlapse_tls_next_secret(uint8_t *secret, size_t secret_len);
 
@@ -617,7 +629,8 @@ bool deerlapse_tls_next_secret(uint8_t *secret, size_t secret_len);
  *                  as many zeros as there is room for, as padding, and the tag
  *   content_len    at most payload_len - 17
  *
- * Returns false if the key is zeros, or if the type or a length is another. */
+ * Returns false if the key is zeros, if the type is 0, if payload_len is above 2^14 + 17, or if there are fewer than 17 bytes
+ * after the content. */
 DEERLAPSE_NODISCARD
 bool deerlapse_record_key_seal(const deerlapse_record_key *key, uint64_t number, uint8_t content_type, uint8_t *payload,
                                size_t payload_len, size_t content_len);
@@ -634,7 +647,7 @@ bool deerlapse_record_key_seal(const deerlapse_record_key *key, uint64_t number,
  * bytes are authentic, and TLS rejects them (RFC 8446 sections 5.2 and 5.4): this is left to the caller, as are the rules of
  * each type.
  *
- * Returns false if the tag is wrong, if the key is zeros, or if payload_len is another. */
+ * Returns false if the tag is wrong, if the key is zeros, or if payload_len is below 17 or above 2^14 + 256. */
 DEERLAPSE_NODISCARD
 bool deerlapse_record_key_open(const deerlapse_record_key *key, uint64_t number, uint8_t *payload, size_t payload_len,
                                uint8_t *content_type, size_t *content_len);
