@@ -7,7 +7,7 @@ use core::fmt;
 /// An error that doesn't say why a call failed, as FAIL does not in SP 800-38D section 7.2. The documentation of each
 /// call lists the reasons.
 ///
-/// ```
+/// ```no_run
 /// use deerlapse_ring::aead::Nonce;
 /// use deerlapse_ring::error::Unspecified;
 ///

@@ -79,7 +79,7 @@ macro_rules! cipher {
 cipher! {
     /// AES-128-GCM.
     ///
-    /// ```
+    /// ```no_run
     /// use deerlapse_aead::aead::KeyInit;
     /// use deerlapse_aead::Aes128Gcm;
     ///
@@ -92,7 +92,7 @@ cipher! {
 cipher! {
     /// AES-256-GCM.
     ///
-    /// ```
+    /// ```no_run
     /// use deerlapse_aead::aead::KeyInit;
     /// use deerlapse_aead::Aes256Gcm;
     ///
@@ -105,7 +105,7 @@ cipher! {
 cipher! {
     /// XAES-256-GCM (`c2sp.org/XAES-256-GCM`), whose nonces have 24 bytes: enough to be drawn at random for each message.
     ///
-    /// ```
+    /// ```no_run
     /// use deerlapse_aead::aead::{AeadInPlace, KeyInit};
     /// use deerlapse_aead::Xaes256Gcm;
     ///

@@ -25,7 +25,7 @@ pub(crate) static LEVEL: AtomicU8 = AtomicU8::new(UNKNOWN);
 ///
 /// The other functions and methods panic if it returns false, before they call the library.
 ///
-/// ```
+/// ```no_run
 /// assert!(deerlapse::cpu_supported());
 /// ```
 #[cfg(target_arch = "x86_64")]

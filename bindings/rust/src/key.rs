@@ -15,7 +15,7 @@ use core::ops::RangeFrom;
 /// call allocates for it, and a call takes at most 8 KiB of stack. A call that fails leaves its buffer unchanged. A key
 /// is wiped when it is dropped; if it was moved, its bytes may remain where it was before.
 ///
-/// ```
+/// ```no_run
 /// use deerlapse::{LessSafeKey, Nonce};
 ///
 /// let key = LessSafeKey::new(&[0; 32])?; // 32 bytes: AES-256-GCM; 16 bytes: AES-128-GCM
@@ -39,7 +39,7 @@ impl LessSafeKey {
     ///
     /// # Examples
     ///
-    /// ```
+    /// ```no_run
     /// use deerlapse::LessSafeKey;
     ///
     /// assert!(LessSafeKey::new(&[0; 16]).is_ok());
@@ -60,7 +60,7 @@ impl LessSafeKey {
     ///
     /// # Examples
     ///
-    /// ```
+    /// ```no_run
     /// use deerlapse::{LessSafeKey, Nonce};
     ///
     /// // McGrew and Viega, "The Galois/Counter Mode of Operation (GCM)", appendix B, test case 1
@@ -101,7 +101,7 @@ impl LessSafeKey {
     ///
     /// # Examples
     ///
-    /// ```
+    /// ```no_run
     /// use deerlapse::{LessSafeKey, Nonce};
     ///
     /// let mut buffer = b"hello".to_vec();
@@ -135,7 +135,7 @@ impl LessSafeKey {
     ///
     /// # Examples
     ///
-    /// ```
+    /// ```no_run
     /// use deerlapse::{LessSafeKey, Nonce};
     ///
     /// let key = LessSafeKey::new(&[0; 16])?;
@@ -179,7 +179,7 @@ impl LessSafeKey {
     ///
     /// # Examples
     ///
-    /// ```
+    /// ```no_run
     /// use deerlapse::{LessSafeKey, Nonce, Unspecified};
     ///
     /// let key = LessSafeKey::new(&[0; 16])?;
@@ -209,7 +209,7 @@ impl LessSafeKey {
     ///
     /// # Examples
     ///
-    /// ```
+    /// ```no_run
     /// use deerlapse::{LessSafeKey, Nonce};
     ///
     /// let key = LessSafeKey::new(&[0; 16])?;
@@ -255,7 +255,7 @@ impl LessSafeKey {
     ///
     /// # Examples
     ///
-    /// ```
+    /// ```no_run
     /// use deerlapse::{LessSafeKey, Nonce};
     ///
     /// let key = LessSafeKey::new(&[0; 16])?;
@@ -302,7 +302,7 @@ impl LessSafeKey {
     ///
     /// # Examples
     ///
-    /// ```
+    /// ```no_run
     /// use deerlapse::{LessSafeKey, Nonce, Unspecified};
     ///
     /// let key = LessSafeKey::new(&[0; 16])?;
@@ -345,7 +345,7 @@ impl LessSafeKey {
     ///
     /// # Examples
     ///
-    /// ```
+    /// ```no_run
     /// use deerlapse::{LessSafeKey, Nonce};
     ///
     /// let key = LessSafeKey::new(&[0; 16])?;
@@ -387,7 +387,7 @@ impl LessSafeKey {
     ///
     /// # Examples
     ///
-    /// ```
+    /// ```no_run
     /// use deerlapse::{LessSafeKey, Nonce, Unspecified};
     ///
     /// let key = LessSafeKey::new(&[0; 16])?;

@@ -1,3 +1,5 @@
+// In this package and in those over it, the examples in doc comments are marked `no_run`: each that ran would be a program of its
+// own, linked with the assembly. tools/package runs them as tests of one program.
 #![doc = include_str!("../README.md")]
 #![cfg_attr(not(test), no_std)]
 #![warn(missing_docs)]
@@ -49,21 +51,21 @@ use core::mem::MaybeUninit;
 
 /// The length of a nonce, in bytes. That of XAES-256-GCM is [`XAES_NONCE_LEN`].
 ///
-/// ```
+/// ```no_run
 /// assert_eq!(deerlapse::nonce_of(&[0; 12], 1).as_ref().len(), deerlapse::NONCE_LEN);
 /// ```
 pub const NONCE_LEN: usize = 12;
 
 /// The length of a nonce of XAES-256-GCM, in bytes.
 ///
-/// ```
+/// ```no_run
 /// let nonce = deerlapse::XaesNonce::assume_unique_for_key([7; deerlapse::XAES_NONCE_LEN]);
 /// ```
 pub const XAES_NONCE_LEN: usize = 24;
 
 /// The length of a tag, in bytes.
 ///
-/// ```
+/// ```no_run
 /// use deerlapse::{LessSafeKey, Nonce, TAG_LEN};
 ///
 /// let mut buffer = b"hello".to_vec();
@@ -76,7 +78,7 @@ pub const TAG_LEN: usize = 16;
 
 /// The length of a sample of QUIC's header protection, in bytes.
 ///
-/// ```
+/// ```no_run
 /// let sample = [0; deerlapse::SAMPLE_LEN];
 /// assert!(deerlapse::mask_aes(&[0; 16], &sample).is_ok());
 /// ```
@@ -84,14 +86,14 @@ pub const SAMPLE_LEN: usize = 16;
 
 /// The length of a mask of QUIC's header protection, in bytes.
 ///
-/// ```
+/// ```no_run
 /// assert_eq!(deerlapse::mask_chacha20(&[0; 32], &[0; 16]).len(), deerlapse::MASK_LEN);
 /// ```
 pub const MASK_LEN: usize = 5;
 
 /// Returns the version of the library in one number: 0x010203 for 1.2.3.
 ///
-/// ```
+/// ```no_run
 /// assert_eq!(deerlapse::version(), 0x000100);
 /// ```
 #[must_use]
@@ -103,7 +105,7 @@ pub fn version() -> u32 {
 
 /// The error of every call. It does not say why the call failed: the documentation of each call lists the reasons.
 ///
-/// ```
+/// ```no_run
 /// use deerlapse::{LessSafeKey, Unspecified};
 ///
 /// let refused: Result<LessSafeKey, Unspecified> = LessSafeKey::new(&[0; 24]);

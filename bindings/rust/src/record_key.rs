@@ -11,7 +11,7 @@ use core::fmt;
 ///
 /// # Examples
 ///
-/// ```
+/// ```no_run
 /// use deerlapse::{hkdf_expand_label, tls_next_secret};
 ///
 /// let (mut secret, mut next) = ([7; 48], [0; 48]);
@@ -34,7 +34,7 @@ pub fn tls_next_secret(secret: &mut [u8]) -> Result<(), Unspecified> {
 /// It holds the expanded key, as [`LessSafeKey`](crate::LessSafeKey) does: threads may share it, and it is wiped when it is
 /// dropped.
 ///
-/// ```
+/// ```no_run
 /// use deerlapse::RecordKey;
 ///
 /// const HANDSHAKE: u8 = 22;
@@ -59,7 +59,7 @@ impl RecordKey {
     ///
     /// # Examples
     ///
-    /// ```
+    /// ```no_run
     /// use deerlapse::RecordKey;
     ///
     /// assert!(RecordKey::new(&[0; 16], &[0; 12]).is_ok());
@@ -86,7 +86,7 @@ impl RecordKey {
     ///
     /// # Examples
     ///
-    /// ```
+    /// ```no_run
     /// use deerlapse::RecordKey;
     ///
     /// assert!(RecordKey::from_secret(&[0; 32]).is_ok());
@@ -116,7 +116,7 @@ impl RecordKey {
     ///
     /// # Examples
     ///
-    /// ```
+    /// ```no_run
     /// use deerlapse::{RecordKey, Unspecified};
     ///
     /// let key = RecordKey::from_secret(&[7; 48])?;
@@ -162,7 +162,7 @@ impl RecordKey {
     ///
     /// # Examples
     ///
-    /// ```
+    /// ```no_run
     /// use deerlapse::{RecordKey, Unspecified};
     ///
     /// // RFC 8448 section 3: an alert of the server

@@ -12,7 +12,7 @@ use core::ops::Range;
 /// It holds the expanded key, as [`LessSafeKey`](crate::LessSafeKey) does, and is wiped when it is dropped.
 /// [`Opener`](crate::Opener) opens what it seals.
 ///
-/// ```
+/// ```no_run
 /// use deerlapse::{Opener, Sealer};
 ///
 /// let mut sealer = Sealer::new(&[0; 16], &[0; 12], 0..1 << 24)?;
@@ -48,7 +48,7 @@ impl Sealer {
     ///
     /// # Examples
     ///
-    /// ```
+    /// ```no_run
     /// use deerlapse::Sealer;
     ///
     /// assert!(Sealer::new(&[0; 16], &[0; 12], 7..9).is_ok());
@@ -84,7 +84,7 @@ impl Sealer {
 
     /// Returns the numbers that are left. The first is the number of the next message.
     ///
-    /// ```
+    /// ```no_run
     /// let mut sealer = deerlapse::Sealer::new(&[0; 16], &[0; 12], 7..9)?;
     /// sealer.seal_in_place_separate_tag(b"", &mut [])?;
     /// assert_eq!(sealer.numbers_left(), 8..9);
@@ -107,7 +107,7 @@ impl Sealer {
     ///
     /// # Examples
     ///
-    /// ```
+    /// ```no_run
     /// use deerlapse::{Sealer, Unspecified};
     ///
     /// let mut sealer = Sealer::new(&[0; 16], &[0; 12], 0..1)?;
@@ -146,7 +146,7 @@ impl Sealer {
     ///
     /// # Examples
     ///
-    /// ```
+    /// ```no_run
     /// let mut sealer = deerlapse::Sealer::new(&[0; 16], &[0; 12], 0..1)?;
     /// let mut buffer = b"hello".to_vec();
     /// sealer.seal_in_place_append_tag(b"v1", &mut buffer)?;

@@ -11,7 +11,7 @@ use crate::{accepted, cpu, ffi, Unspecified, MASK_LEN, NONCE_LEN, SAMPLE_LEN};
 ///
 /// # Examples
 ///
-/// ```
+/// ```no_run
 /// // RFC 9001 appendix A.2
 /// let key: u128 = 0x9f50449e04a0e810283a1e9933adedd2;
 /// let sample: u128 = 0xd1b1c98dd7689fb8ec11d242b123dc9b;
@@ -30,7 +30,7 @@ pub fn mask_aes(key: &[u8], sample: &[u8; SAMPLE_LEN]) -> Result<[u8; MASK_LEN],
 
 /// Returns the header protection mask for a sample, with ChaCha20 (RFC 9001 section 5.4.4).
 ///
-/// ```
+/// ```no_run
 /// // RFC 9001 appendix A.5
 /// let key = [
 ///     0x25, 0xa2, 0x82, 0xb9, 0xe8, 0x2f, 0x06, 0xf2, 0x1f, 0x48, 0x89, 0x17, 0xa4, 0xfc, 0x8f, 0x1b,
@@ -60,7 +60,7 @@ pub fn mask_chacha20(key: &[u8; 32], sample: &[u8; SAMPLE_LEN]) -> [u8; MASK_LEN
 ///
 /// # Examples
 ///
-/// ```
+/// ```no_run
 /// let mut bytes = *b"hello";
 /// deerlapse::chacha20(&[0; 32], &[0; 12], 1, &mut bytes)?;
 /// deerlapse::chacha20(&[0; 32], &[0; 12], 1, &mut bytes)?;

@@ -21,7 +21,7 @@ use core::ops::RangeFrom;
 /// The package draws no random bytes. They come for example from the crate `getrandom`, or from `OsRng` of the crate `aead`,
 /// whose traits the package `deerlapse-aead` has for this cipher.
 ///
-/// ```
+/// ```no_run
 /// use deerlapse::{Xaes256Gcm, XaesNonce};
 ///
 /// let (key, nonce) = ([0; 32], [0; 24]); // both are drawn at random, and a new nonce for each message
@@ -38,7 +38,7 @@ pub struct Xaes256Gcm(pub(crate) ffi::Xaes);
 impl Xaes256Gcm {
     /// Creates a key from 32 bytes.
     ///
-    /// ```
+    /// ```no_run
     /// use deerlapse::{Xaes256Gcm, XaesNonce};
     ///
     /// let key = Xaes256Gcm::new(&[7; 32]);
@@ -62,7 +62,7 @@ impl Xaes256Gcm {
     ///
     /// # Examples
     ///
-    /// ```
+    /// ```no_run
     /// use deerlapse::{Xaes256Gcm, XaesNonce};
     ///
     /// // The first vector of the specification
@@ -104,7 +104,7 @@ impl Xaes256Gcm {
     ///
     /// # Examples
     ///
-    /// ```
+    /// ```no_run
     /// use deerlapse::{Xaes256Gcm, XaesNonce};
     ///
     /// let mut buffer = b"hello".to_vec();
@@ -135,7 +135,7 @@ impl Xaes256Gcm {
     ///
     /// # Examples
     ///
-    /// ```
+    /// ```no_run
     /// use deerlapse::{Xaes256Gcm, XaesNonce};
     ///
     /// let key = Xaes256Gcm::new(&[0; 32]);
@@ -180,7 +180,7 @@ impl Xaes256Gcm {
     ///
     /// # Examples
     ///
-    /// ```
+    /// ```no_run
     /// use deerlapse::{Unspecified, Xaes256Gcm, XaesNonce};
     ///
     /// let key = Xaes256Gcm::new(&[0; 32]);
@@ -210,7 +210,7 @@ impl Xaes256Gcm {
     ///
     /// # Examples
     ///
-    /// ```
+    /// ```no_run
     /// use deerlapse::{Xaes256Gcm, XaesNonce};
     ///
     /// let key = Xaes256Gcm::new(&[0; 32]);
@@ -255,7 +255,7 @@ impl Xaes256Gcm {
     ///
     /// # Examples
     ///
-    /// ```
+    /// ```no_run
     /// use deerlapse::{Xaes256Gcm, XaesNonce};
     ///
     /// let key = Xaes256Gcm::new(&[0; 32]);
@@ -301,7 +301,7 @@ impl Xaes256Gcm {
     ///
     /// # Examples
     ///
-    /// ```
+    /// ```no_run
     /// use deerlapse::{Unspecified, Xaes256Gcm, XaesNonce};
     ///
     /// let nonce = XaesNonce::assume_unique_for_key([0; 24]);
@@ -343,7 +343,7 @@ impl Xaes256Gcm {
     ///
     /// # Examples
     ///
-    /// ```
+    /// ```no_run
     /// use deerlapse::{Xaes256Gcm, XaesNonce};
     ///
     /// let key = Xaes256Gcm::new(&[0; 32]);
@@ -385,7 +385,7 @@ impl Xaes256Gcm {
     ///
     /// # Examples
     ///
-    /// ```
+    /// ```no_run
     /// use deerlapse::{Unspecified, Xaes256Gcm, XaesNonce};
     ///
     /// let nonce = XaesNonce::assume_unique_for_key([0; 24]);

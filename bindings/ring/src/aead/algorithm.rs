@@ -8,7 +8,7 @@ use core::fmt;
 ///
 /// `Debug` prints its name.
 ///
-/// ```
+/// ```no_run
 /// use deerlapse_ring::aead::{AES_128_GCM, AES_256_GCM};
 ///
 /// for algorithm in [&AES_128_GCM, &AES_256_GCM] {

@@ -12,7 +12,7 @@ use core::ops::RangeFrom;
 /// nonce, which reveals the XOR of the two messages and lets others forge tags. Threads may share a key. It is wiped when
 /// it is dropped; if it was moved, its bytes may remain where it was before.
 ///
-/// ```
+/// ```no_run
 /// use deerlapse_ring::aead::{Aad, LessSafeKey, Nonce, UnboundKey, AES_256_GCM};
 ///
 /// let key = LessSafeKey::new(UnboundKey::new(&AES_256_GCM, &[0; 32])?);
@@ -54,7 +54,7 @@ impl LessSafeKey {
     ///
     /// # Examples
     ///
-    /// ```
+    /// ```no_run
     /// use deerlapse_ring::aead::{Aad, LessSafeKey, Nonce, UnboundKey, AES_128_GCM};
     ///
     /// let key = LessSafeKey::new(UnboundKey::new(&AES_128_GCM, &[0; 16])?);

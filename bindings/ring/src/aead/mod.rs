@@ -27,7 +27,7 @@ pub const MAX_TAG_LEN: usize = deerlapse::TAG_LEN;
 /// A key that is bound to it takes the next nonce for each call. A type that is one should be neither `Clone` nor `Copy`,
 /// since a clone would return the same nonces again.
 ///
-/// ```
+/// ```no_run
 /// use deerlapse_ring::aead::{Nonce, NonceSequence};
 /// use deerlapse_ring::error::Unspecified;
 ///
@@ -70,7 +70,7 @@ pub trait BoundKey<N: NonceSequence>: fmt::Debug {
 ///
 /// It is less than 2^61 bytes of any type that has them, such as `&[u8]`, `[u8; 5]` or `Vec<u8>`.
 ///
-/// ```
+/// ```no_run
 /// use deerlapse_ring::aead::Aad;
 ///
 /// let aad = Aad::from([23, 3, 3]);
@@ -110,7 +110,7 @@ impl<A: AsRef<[u8]>> AsRef<[u8]> for Aad<A> {
 ///
 /// It is made from an array, or from a slice of 16 bytes: `try_from` refuses any other length.
 ///
-/// ```
+/// ```no_run
 /// use deerlapse_ring::aead::Tag;
 ///
 /// assert_eq!(Tag::from([7; 16]).as_ref(), [7; 16]);

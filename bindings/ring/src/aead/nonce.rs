@@ -25,7 +25,7 @@ impl Nonce {
     ///
     /// # Examples
     ///
-    /// ```
+    /// ```no_run
     /// use deerlapse_ring::aead::Nonce;
     ///
     /// assert!(Nonce::try_assume_unique_for_key(&[0; 12]).is_ok());
@@ -40,7 +40,7 @@ impl Nonce {
 
     /// Makes a nonce of an array, assuming that no other is the same under its key (SP 800-38D section 8).
     ///
-    /// ```
+    /// ```no_run
     /// let nonce = deerlapse_ring::aead::Nonce::assume_unique_for_key([7; 12]);
     /// assert_eq!(nonce.as_ref(), &[7; 12]);
     /// ```

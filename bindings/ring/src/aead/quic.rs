@@ -12,7 +12,7 @@ const SAMPLE_LEN: usize = deerlapse::SAMPLE_LEN;
 ///
 /// `Debug` prints its name.
 ///
-/// ```
+/// ```no_run
 /// use deerlapse_ring::aead::quic::{AES_128, AES_256, CHACHA20};
 ///
 /// assert_eq!([&AES_128, &AES_256, &CHACHA20].map(|it| it.key_len()), [16, 32, 32]);
@@ -101,7 +101,7 @@ impl HeaderProtectionKey {
     ///
     /// # Examples
     ///
-    /// ```
+    /// ```no_run
     /// use deerlapse_ring::aead::quic::{HeaderProtectionKey, AES_128};
     ///
     /// assert!(HeaderProtectionKey::new(&AES_128, &[0; 16]).is_ok());
@@ -129,7 +129,7 @@ impl HeaderProtectionKey {
     ///
     /// # Examples
     ///
-    /// ```
+    /// ```no_run
     /// use deerlapse_ring::aead::quic::{HeaderProtectionKey, AES_128};
     ///
     /// // RFC 9001 appendix A.2

@@ -8,7 +8,7 @@ use core::fmt;
 ///
 /// A call that fails has used a nonce too, except where the sequence had none.
 ///
-/// ```
+/// ```no_run
 /// use deerlapse_ring::aead::{
 ///     Aad, BoundKey, Nonce, NonceSequence, OpeningKey, SealingKey, UnboundKey, AES_128_GCM,
 /// };

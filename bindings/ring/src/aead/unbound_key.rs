@@ -21,7 +21,7 @@ impl UnboundKey {
     ///
     /// # Examples
     ///
-    /// ```
+    /// ```no_run
     /// use deerlapse_ring::aead::{UnboundKey, AES_128_GCM};
     ///
     /// let key = UnboundKey::new(&AES_128_GCM, &[0; 16])?;
