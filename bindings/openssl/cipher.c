@@ -72,6 +72,7 @@ static void named(context *c) {
 
 /* OpenSSL calls them for a new EVP_CIPHER_CTX. */
 static context *new_context(void *of, size_t key_len) {
+    KEEP_ERRNO;
     context *c = OPENSSL_zalloc(sizeof *c);
     if (c == NULL) return NULL;
     c->provider = of;
@@ -86,6 +87,7 @@ static void *new_256(void *of) { return new_context(of, 32); }
 /* OpenSSL calls it for EVP_CIPHER_CTX_free and _reset. The key is wiped, and with it all else. */
 static OSSL_FUNC_cipher_freectx_fn free_context;
 static void free_context(void *v) {
+    KEEP_ERRNO;
     context *c = v;
     if (c == NULL) return;
     OPENSSL_clear_free(c->aad, c->aad_room);
@@ -109,6 +111,7 @@ static bool append_aad(context *c, const uint8_t *in, size_t len) {
 /* For EVP_CIPHER_CTX_copy and _dup. A message that waits for its tag is opened by the first context alone. */
 static OSSL_FUNC_cipher_dupctx_fn copy_context;
 static void *copy_context(void *v) {
+    KEEP_ERRNO;
     const context *from = v;
     context *c;
     if (from->stage == SEALING || (from->encrypting && from->counts)) {
@@ -133,6 +136,7 @@ static OSSL_FUNC_cipher_set_ctx_params_fn set_params;
 
 static int init(context *c, const uint8_t *key, size_t key_len, const uint8_t *nonce, size_t nonce_len,
                 const OSSL_PARAM params[], bool encrypting) {
+    KEEP_ERRNO;
     /* A tag may have been set before, for a message that is opened. */
     if (encrypting || c->encrypting) c->has_tag = false;
     c->encrypting = encrypting;
@@ -204,12 +208,12 @@ static bool overlap(const uint8_t *out, const uint8_t *in, size_t len) {
     return a != b && (a < b ? b - a : a - b) < len;
 }
 
-/* Takes in text that isn't opened, and gives out none. `final` is where EVP reports a false tag, and where every program
- * looks: BIO_f_cipher(3) takes an update that fails for the end of the text. */
-static int give_none(context *c, int why, uint8_t *out, const uint8_t *in, size_t len) {
+/* Takes in text that isn't opened, and gives out zeros, in place too. `final` is where EVP reports a false tag, and where every
+ * program looks: BIO_f_cipher(3) takes an update that fails for the end of the text. */
+static int give_none(context *c, int why, uint8_t *out, size_t len) {
     c->stage = REFUSED;
     c->why = why;
-    if (out != in && !overlap(out, in, len)) memset(out, 0, len);
+    memset(out, 0, len);
     return 1;
 }
 
@@ -230,12 +234,12 @@ static int wait_for_tag(context *c, uint8_t *out, size_t *out_len, const uint8_t
  * is returned, since OpenSSL's own cipher returns that length and some programs abort at another. */
 static int open(context *c, uint8_t *out, size_t *out_len, const uint8_t *in, size_t len) {
     bool continues = c->stage == WAITING && out == c->late + c->late_len;
-    if (c->stage == REFUSED && c->why == NO_TAG) return give_none(c, NO_TAG, out, in, len);
-    if (c->stage != NAMED && !continues) return give_none(c, OPENING_IN_PIECES, out, in, len);
     if (overlap(out, in, len)) return refuse(c->provider, OVERLAP);
+    if (c->stage == REFUSED && c->why == NO_TAG) return give_none(c, NO_TAG, out, len);
+    if (c->stage != NAMED && !continues) return give_none(c, OPENING_IN_PIECES, out, len);
     if (continues) return wait_for_tag(c, out, out_len, in, len);
     if (!c->has_tag && c->provider->late_tag && len > 0) return wait_for_tag(c, out, out_len, in, len);
-    if (!c->has_tag) return give_none(c, NO_TAG, out, in, len);
+    if (!c->has_tag) return give_none(c, NO_TAG, out, len);
     if (len > 0) report(c->provider, TAG_BEFORE_TEXT);
     c->has_tag = false;
     if (deerlapse_key_open_to(&c->key, c->nonce, c->aad, c->aad_len, in, len, out, c->tag)) {
@@ -293,6 +297,7 @@ static bool goes_on(const context *c) {
 /* For EVP_EncryptUpdate and EVP_DecryptUpdate: AAD where `out` is null, else text. */
 static OSSL_FUNC_cipher_update_fn update;
 static int update(void *v, unsigned char *out, size_t *out_len, size_t out_room, const unsigned char *in, size_t len) {
+    KEEP_ERRNO;
     context *c = v;
     *out_len = 0;
     if (c->has_record) {
@@ -313,6 +318,7 @@ static int update(void *v, unsigned char *out, size_t *out_len, size_t out_room,
 /* For EVP_EncryptFinal_ex and EVP_DecryptFinal_ex. A message without text is opened here. */
 static OSSL_FUNC_cipher_final_fn final;
 static int final(void *v, unsigned char *out, size_t *out_len, size_t out_room) {
+    KEEP_ERRNO;
     context *c = v;
     uint8_t none = 0;
     bool opened;
@@ -371,6 +377,7 @@ static bool gives_number(OSSL_PARAM params[], const char *name, int value) {
 }
 
 static int params_of(OSSL_PARAM params[], size_t key_len) {
+    KEEP_ERRNO;
     return gives_number(params, OSSL_CIPHER_PARAM_MODE, EVP_CIPH_GCM_MODE) &&
            gives_size(params, OSSL_CIPHER_PARAM_KEYLEN, key_len) && gives_size(params, OSSL_CIPHER_PARAM_IVLEN, NONCE) &&
            gives_size(params, OSSL_CIPHER_PARAM_BLOCK_SIZE, 1) && gives_number(params, OSSL_CIPHER_PARAM_AEAD, 1) &&
@@ -432,6 +439,7 @@ static bool gives_next_nonce(context *c, OSSL_PARAM params[]) {
 
 static OSSL_FUNC_cipher_get_ctx_params_fn get_params;
 static int get_params(void *v, OSSL_PARAM params[]) {
+    KEEP_ERRNO;
     context *c = v;
     return gives_size(params, OSSL_CIPHER_PARAM_KEYLEN, c->key_len) && gives_size(params, OSSL_CIPHER_PARAM_IVLEN, NONCE) &&
            gives_size(params, OSSL_CIPHER_PARAM_AEAD_TAGLEN, TAG) &&
@@ -534,6 +542,7 @@ static bool takes_explicit(context *c, const OSSL_PARAM params[]) {
 }
 
 static int set_params(void *v, const OSSL_PARAM params[]) {
+    KEEP_ERRNO;
     context *c = v;
     return params == NULL || (takes_nonce_len(c, params) && takes_tag(c, params) && takes_record_aad(c, params) &&
                               takes_fixed(c, params) && takes_explicit(c, params));

@@ -1,14 +1,17 @@
 /* An OpenSSL 3 provider of AES-128-GCM and AES-256-GCM by deerlapse.h: what OpenSSL loads, asks and unloads (provider(7),
  * provider-base(7)). The ciphers are in cipher.c. */
+#define _XOPEN_SOURCE 700 /* for sigaction, as -std=c11 declares it */
 #include "provider.h"
 #include <deerlapse.h>
 #include <openssl/core_names.h>
 #include <openssl/err.h>
 #include <openssl/params.h>
 #include <openssl/proverr.h>
+#include <signal.h>
 #include <stdatomic.h>
-#include <stdio.h>
+#include <string.h>
 #include <strings.h>
+#include <unistd.h>
 
 #define TEXT_OF(number) #number
 #define DOTTED(major, minor, patch) TEXT_OF(major) "." TEXT_OF(minor) "." TEXT_OF(patch)
@@ -52,15 +55,30 @@ int refuse_at(const provider *by, const char *file, int line, const char *functi
     return 0;
 }
 
+#define LINE(text) "deerlapse: this process " text "\n"
+
+/* The line is one system call, which sandboxes such as sshd's allow. That it fails is no error of the caller's. */
 void report(const provider *by, event what) {
     static const char *const lines[] = {
-        [MAKES_KEY] = "has made a key by deerlapse " VERSION " for " PROCESSOR,
-        [TAG_BEFORE_TEXT] = "sets the tag before the text",
-        [TAG_AFTER_TEXT] = "sets the tag after the text, which needs late-tag = yes",
+        [MAKES_KEY] = LINE("has made a key by deerlapse " VERSION " for " PROCESSOR),
+        [TAG_BEFORE_TEXT] = LINE("sets the tag before the text"),
+        [TAG_AFTER_TEXT] = LINE("sets the tag after the text, which needs late-tag = yes"),
     };
     static atomic_flag reported[] = {ATOMIC_FLAG_INIT, ATOMIC_FLAG_INIT, ATOMIC_FLAG_INIT};
+    ssize_t written;
     if (!by->trace || atomic_flag_test_and_set(&reported[what])) return;
-    fprintf(stderr, "deerlapse: this process %s\n", lines[what]);
+    written = write(STDERR_FILENO, lines[what], strlen(lines[what]));
+    (void)written;
+}
+
+/* Sees to it that a line beyond the limit of a file's size, which sshd's sandbox sets to 0, fails with EFBIG: SIGXFSZ would end
+ * the process. Whether it does: a program's own handler is kept. */
+static bool ignores_sigxfsz(void) {
+    struct sigaction action;
+    if (sigaction(SIGXFSZ, NULL, &action) != 0) return false;
+    if (action.sa_handler != SIG_DFL) return action.sa_handler == SIG_IGN;
+    action.sa_handler = SIG_IGN;
+    return sigaction(SIGXFSZ, &action, NULL) == 0;
 }
 
 /* Whether a name in the provider's section of the configuration has the value `yes`. */
@@ -101,6 +119,7 @@ static OSSL_FUNC_provider_get_params_fn get_params;
 static int get_params(void *of, OSSL_PARAM params[]) {
     static const char *const strings[][2] = {
         {OSSL_PROV_PARAM_NAME, "Deerlapse"}, {OSSL_PROV_PARAM_VERSION, VERSION}, {OSSL_PROV_PARAM_BUILDINFO, VERSION}};
+    KEEP_ERRNO;
     OSSL_PARAM *param;
     (void)of;
     for (size_t i = 0; i < sizeof strings / sizeof *strings; i++) {
@@ -119,7 +138,10 @@ static const OSSL_ITEM *get_reason_strings(void *of) {
 }
 
 static OSSL_FUNC_provider_teardown_fn teardown;
-static void teardown(void *of) { OPENSSL_free(of); }
+static void teardown(void *of) {
+    KEEP_ERRNO;
+    OPENSSL_free(of);
+}
 
 /* OpenSSL calls it when it loads the shared object, whose only exported function it is. The provider isn't loaded where the
  * processor lacks instructions of the library. */
@@ -133,6 +155,7 @@ int OSSL_provider_init(const OSSL_CORE_HANDLE *core, const OSSL_DISPATCH *in, co
         {OSSL_FUNC_PROVIDER_TEARDOWN, (void (*)(void))teardown},
         {0, NULL},
     };
+    KEEP_ERRNO;
     OSSL_FUNC_core_get_params_fn *get_configuration = NULL;
     provider *made = OPENSSL_zalloc(sizeof *made);
     if (made == NULL) return 0;
@@ -153,7 +176,7 @@ int OSSL_provider_init(const OSSL_CORE_HANDLE *core, const OSSL_DISPATCH *in, co
         return 0;
     }
     made->late_tag = is_set(core, get_configuration, "late-tag");
-    made->trace = is_set(core, get_configuration, "trace");
+    made->trace = is_set(core, get_configuration, "trace") && ignores_sigxfsz();
     *out = functions;
     *context = made;
     return 1;

@@ -2,6 +2,7 @@
 #ifndef DEERLAPSE_PROVIDER_H
 #define DEERLAPSE_PROVIDER_H
 
+#include <errno.h>
 #include <openssl/core_dispatch.h>
 #include <openssl/crypto.h>
 #include <stdbool.h>
@@ -44,8 +45,13 @@ int refuse_at(const provider *by, const char *file, int line, const char *functi
 /* What a process is seen to do. */
 typedef enum { MAKES_KEY, TAG_BEFORE_TEXT, TAG_AFTER_TEXT } event;
 
-/* With `trace = yes`, prints a line to standard error at the first event of its kind in the process. */
+/* With `trace = yes`, writes a line to standard error at the first event of its kind in the process. */
 void report(const provider *by, event what);
+
+/* Each function that OpenSSL calls, and that calls others which may set `errno`, begins with it: where the function ends, errno
+ * gets the value back that it had. */
+#define KEEP_ERRNO __attribute__((cleanup(give_back_errno), unused)) const int kept = errno
+static inline void give_back_errno(const int *kept) { errno = *kept; }
 
 /* The functions of the two ciphers, in cipher.c. */
 extern const OSSL_DISPATCH aes_128_gcm[], aes_256_gcm[];

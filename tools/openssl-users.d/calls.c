@@ -1,14 +1,17 @@
 /* Calls of EVP on the provider deerlapse, which the configuration of OpenSSL prefers, beside OpenSSL's own cipher: messages,
  * records of TLS 1.2, nonces that are made, and each call that is refused, with the reason in the error queue.
  *
- * Use: calls ROUNDS [late]. It prints how many there were. With `late`, the configuration has `late-tag = yes`, and the
- * calls are those that it allows. */
+ * Use: calls ROUNDS [late|handles]. It prints how many there were. With `late`, the configuration has `late-tag = yes`, and the
+ * calls are those that it allows. With `handles`, SIGXFSZ has a handler, which ends the program. */
 #include "check.h"
+#include <errno.h>
 #include <openssl/core_names.h>
+#include <openssl/crypto.h>
 #include <openssl/err.h>
 #include <openssl/evp.h>
 #include <openssl/params.h>
 #include <openssl/provider.h>
+#include <signal.h>
 #include <stdbool.h>
 #include <stdint.h>
 #include <stdio.h>
@@ -67,18 +70,47 @@ static EVP_CIPHER_CTX *context(const EVP_CIPHER *cipher, bool encrypting) {
     return ctx;
 }
 
+/* Allocations set `errno`, as they may. Of the calls below the provider makes some, and leaves `errno` as it was. */
+static void *allocate(size_t len, const char *file, int line) {
+    (void)file, (void)line;
+    errno = ENOMEM;
+    return malloc(len);
+}
+
+static void *reallocate(void *from, size_t len, const char *file, int line) {
+    (void)file, (void)line;
+    errno = ENOMEM;
+    return realloc(from, len);
+}
+
+static void release(void *from, const char *file, int line) {
+    (void)file, (void)line;
+    errno = ENOMEM;
+    free(from);
+}
+
 static bool ctrl(EVP_CIPHER_CTX *ctx, int what, int len, void *bytes) {
-    return EVP_CIPHER_CTX_ctrl(ctx, what, len, bytes) > 0;
+    bool done;
+    errno = 0;
+    done = EVP_CIPHER_CTX_ctrl(ctx, what, len, bytes) > 0;
+    CHECK(errno == 0);
+    return done;
 }
 
 static bool update(EVP_CIPHER_CTX *ctx, uint8_t *to, const uint8_t *from, size_t len) {
-    int written = -1;
-    return EVP_CipherUpdate(ctx, to, &written, from, (int)len) > 0 && written == (int)len;
+    int written = -1, done;
+    errno = 0;
+    done = EVP_CipherUpdate(ctx, to, &written, from, (int)len);
+    CHECK(errno == 0);
+    return done > 0 && written == (int)len;
 }
 
 static bool final(EVP_CIPHER_CTX *ctx) {
-    int written = -1;
-    return EVP_CipherFinal_ex(ctx, out, &written) > 0 && written == 0;
+    int written = -1, done;
+    errno = 0;
+    done = EVP_CipherFinal_ex(ctx, out, &written);
+    CHECK(errno == 0);
+    return done > 0 && written == 0;
 }
 
 /* The AAD in one update or in two, the second of which may be empty. */
@@ -259,7 +291,10 @@ static bool no_key(EVP_CIPHER_CTX *ctx) {
     return update(ctx, out, it.text, 20);
 }
 
+/* OpenSSL's own draws one. */
 static bool no_nonce(EVP_CIPHER_CTX *ctx) {
+    CHECK(EVP_CIPHER_CTX_reset(ctx) && EVP_EncryptInit_ex(ctx, pairs[0].theirs, NULL, it.key, NULL));
+    CHECK(update(ctx, out, it.text, 20) && final(ctx));
     CHECK(EVP_CIPHER_CTX_reset(ctx) && EVP_EncryptInit_ex(ctx, pairs[0].ours, NULL, it.key, NULL));
     return update(ctx, out, it.text, 20);
 }
@@ -313,17 +348,49 @@ static bool copy_that_makes_nonces(EVP_CIPHER_CTX *ctx) {
     return copied;
 }
 
-/* The text is taken in, and none is given out: the end is refused. */
-static void give_none(EVP_CIPHER_CTX *ctx, size_t from, size_t to) {
+/* An update with a part of the sealed text, which gives zeros for it; or, where the output is a byte before it, is refused and
+ * writes nothing. */
+static void gives_zeros(EVP_CIPHER_CTX *ctx, const uint8_t *text, size_t len) {
+    int written = -1;
+    CHECK(EVP_DecryptUpdate(ctx, out, &written, text, (int)len) && written == 0 && ERR_peek_error() == 0);
+    CHECK(are_zeros(out, len) && out[len] == 0xa7);
+}
+
+static void apart(EVP_CIPHER_CTX *ctx, size_t from, size_t to) {
+    memset(out, 0xa7, sizeof out);
+    gives_zeros(ctx, it.sealed + from, to - from);
+}
+
+static void in_place(EVP_CIPHER_CTX *ctx, size_t from, size_t to) {
+    memset(out, 0xa7, sizeof out);
+    memcpy(out, it.sealed + from, to - from);
+    gives_zeros(ctx, out, to - from);
+}
+
+static void overlapping(EVP_CIPHER_CTX *ctx, size_t from, size_t to) {
     int written = -1;
     memset(out, 0xa7, sizeof out);
-    CHECK(EVP_DecryptUpdate(ctx, out, &written, it.sealed + from, (int)(to - from)) && written == 0);
-    CHECK(ERR_peek_error() == 0);
-    CHECK(are_zeros(out, to - from) && out[to - from] == 0xa7);
+    memcpy(out + 1, it.sealed + from, to - from);
+    CHECK(!EVP_DecryptUpdate(ctx, out, &written, out + 1, (int)(to - from)));
+    CHECK(reason_is("the output overlaps the input, and isn't the same"));
+    CHECK(out[0] == 0xa7 && memcmp(out + 1, it.sealed + from, to - from) == 0);
+}
+
+/* The text is taken in, and none is given out: the end is refused. */
+static void give_none(EVP_CIPHER_CTX *ctx, size_t from, size_t to) {
+    overlapping(ctx, from, to);
+    apart(ctx, from, to);
+    in_place(ctx, from, to);
+    overlapping(ctx, from, to);
 }
 
 static bool no_tag(EVP_CIPHER_CTX *ctx) {
     give_none(ctx, 0, it.len);
+    return final(ctx);
+}
+
+static bool no_tag_in_place(EVP_CIPHER_CTX *ctx) {
+    in_place(ctx, 0, it.len);
     return final(ctx);
 }
 
@@ -356,14 +423,23 @@ static bool pieces(EVP_CIPHER_CTX *ctx) {
 
 static bool more_after_the_message(EVP_CIPHER_CTX *ctx) {
     CHECK(ctrl(ctx, EVP_CTRL_AEAD_SET_TAG, TAG, it.tag) && update(ctx, out, it.sealed, it.len));
-    give_none(ctx, 0, 1);
+    give_none(ctx, 0, 2);
     return final(ctx);
 }
 
+static bool more_in_place(EVP_CIPHER_CTX *ctx) {
+    CHECK(ctrl(ctx, EVP_CTRL_AEAD_SET_TAG, TAG, it.tag) && update(ctx, out, it.sealed, it.len));
+    in_place(ctx, 0, 1);
+    return final(ctx);
+}
+
+/* The update may be made again. */
 static bool overlap(EVP_CIPHER_CTX *ctx) {
-    memcpy(out + 1, it.sealed, it.len);
     CHECK(ctrl(ctx, EVP_CTRL_AEAD_SET_TAG, TAG, it.tag));
-    return update(ctx, out, out + 1, it.len);
+    overlapping(ctx, 0, it.len);
+    CHECK(update(ctx, out + 1, out + 1, it.len) && memcmp(out + 1, it.text, it.len) == 0);
+    memcpy(out, it.sealed, it.len);
+    return update(ctx, out + 1, out, it.len);
 }
 
 static bool record_without_fixed_bytes(EVP_CIPHER_CTX *ctx) {
@@ -398,12 +474,14 @@ static const struct {
     {true, copy_while_sealing, "a context that seals isn't copied: both would use one nonce"},
     {true, copy_that_makes_nonces, "a context that seals isn't copied: both would use one nonce"},
     {false, no_tag, "no tag is set before the message is opened"},
+    {false, no_tag_in_place, "no tag is set before the message is opened"},
     {false, no_tag_of_nothing, "no tag is set before the message is opened"},
     {false, tag_of_another_message, "no tag is set before the message is opened"},
     {false, late_tag, "a tag is set after the update, and not before"},
     {false, second_tag, "a tag is set after the update, and not before"},
     {false, pieces, "opening in pieces: a message is opened in one update"},
     {false, more_after_the_message, "opening in pieces: a message is opened in one update"},
+    {false, more_in_place, "opening in pieces: a message is opened in one update"},
     {false, overlap, "the output overlaps the input, and isn't the same"},
     {true, record_without_fixed_bytes, "not a record in place, under a nonce of which the first 4 bytes are fixed"},
     {true, record_elsewhere, "not a record in place, under a nonce of which the first 4 bytes are fixed"},
@@ -520,9 +598,14 @@ static void late_refusals(const pair *by) {
     CHECK(!final(ctx) && reason_is("opening in pieces: a message is opened in one update"));
     EVP_CIPHER_CTX_free(ctx);
     ctx = context(by->ours, false);
+    CHECK(update(ctx, out, it.sealed, 40));
+    give_none(ctx, 40, 100);
+    CHECK(!final(ctx) && reason_is("opening in pieces: a message is opened in one update"));
+    EVP_CIPHER_CTX_free(ctx);
+    ctx = context(by->ours, false);
     CHECK(!pieces(ctx) && reason_is("opening in pieces: a message is opened in one update"));
     EVP_CIPHER_CTX_free(ctx);
-    refusals += 4;
+    refusals += 5;
     /* a message that is given up, with its tag, before the next one */
     ctx = context(by->ours, false);
     CHECK(update(ctx, out, it.sealed, 40) && set_tag(ctx) && EVP_DecryptInit_ex(ctx, NULL, NULL, NULL, it.nonce));
@@ -530,10 +613,17 @@ static void late_refusals(const pair *by) {
     EVP_CIPHER_CTX_free(ctx);
 }
 
+static void beyond_the_limit(int number) {
+    (void)number;
+    _Exit(2);
+}
+
 int main(int argc, char **argv) {
     long rounds = argc == 2 || argc == 3 ? strtol(argv[1], NULL, 10) : 0;
-    bool late = argc == 3 && strcmp(argv[2], "late") == 0;
-    CHECK(rounds > 0 && late == (argc == 3));
+    bool late = argc == 3 && strcmp(argv[2], "late") == 0, handles = argc == 3 && strcmp(argv[2], "handles") == 0;
+    CHECK(rounds > 0 && (late || handles) == (argc == 3));
+    CHECK(!handles || signal(SIGXFSZ, beyond_the_limit) != SIG_ERR);
+    CHECK(CRYPTO_set_mem_functions(allocate, reallocate, release));
     fetch(&pairs[0], "AES-128-GCM", "id-aes128-GCM", "2.16.840.1.101.3.4.1.6", 16);
     fetch(&pairs[1], "AES-256-GCM", "id-aes256-GCM", "2.16.840.1.101.3.4.1.46", 32);
     for (int i = 0; i < 2; i++) {
