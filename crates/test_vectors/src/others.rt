@@ -47,7 +47,10 @@ pub(crate) fn hmac<H: Hash>(
     len: &[u8],
 ) -> Result<String, NoAnswer> {
     let code = of_hmac::hmac::<H>(key, message);
-    let code = code.as_slice().get(..number(len)?).ok_or(NoAnswer::Refused)?;
+    let code = code
+        .as_slice()
+        .get(..number(len)?)
+        .ok_or(NoAnswer::Refused)?;
     Ok(text(alloc, code)?)
 }
 
