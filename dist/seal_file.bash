@@ -1,3 +1,4 @@
+# SPDX-License-Identifier: Apache-2.0
 # bash completes the commands and options of seal_file, and otherwise the names of files.
 _seal_file() {
     local words='seal open inspect keygen --help --version' word=${COMP_WORDS[COMP_CWORD]}

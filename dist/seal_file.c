@@ -1,3 +1,4 @@
+// SPDX-License-Identifier: Apache-2.0
 /* The part of the program seal_file that is written in C. The rest is the assembly that tools/dist made of crates/seal_file:
  *
  *     cc seal_file.c seal_file-x86_64-v2.s -o seal_file

@@ -1,3 +1,4 @@
+// SPDX-License-Identifier: Apache-2.0
 /* AES-128-GCM and AES-256-GCM for OpenSSL 3: the functions that provider-cipher(7) names, over the calls of deerlapse.h.
  *
  * A message is sealed in one update or in several. It is opened in one, with the tag set before, or, if the configuration

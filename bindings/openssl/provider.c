@@ -1,3 +1,4 @@
+// SPDX-License-Identifier: Apache-2.0
 /* An OpenSSL 3 provider of AES-128-GCM and AES-256-GCM by deerlapse.h: what OpenSSL loads, asks and unloads (provider(7),
  * provider-base(7)). The ciphers are in cipher.c. */
 #define _XOPEN_SOURCE 700 /* for sigaction, as -std=c11 declares it */

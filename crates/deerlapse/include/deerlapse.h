@@ -1,3 +1,4 @@
+// SPDX-License-Identifier: Apache-2.0
 /* AES-GCM, XAES-256-GCM, the ChaCha20 stream, QUIC's header protection masks, and the keys of QUIC's packets and TLS 1.3's
  * records, for C and C++. deerlapse.h is C99. The library is a file of assembly for each target, such as
  * deerlapse-x86_64-v2.s, of which libdeerlapse.a and libdeerlapse.so are made.
