@@ -1,26 +1,16 @@
-use Rattle.std.proofs.Common.{ℕ, ◌*◌, ◌/◌, ◌%◌, ◌^◌, bit_or, get_or, length, set, ap, ◌∙◌, arith}
+use Rattle.std.proofs.Common.{◌/◌, ◌%◌, get_or, length, ◌∙◌, arith}
 use Rattle.std.proofs.lemmas.Nat.Bits.{bit_at_set_other, bit_at_set_same}
 use Rattle.std.specs.Int.{w64}
-use Rattle.quic_packets.specs.Space.{bit_of}
 use Rattle.quic_packets.proofs.SpaceLemmas.{its_bit, other_bits}
 use Rattle.quic_packets.proofs.space.set.Goals as goal
 
-pub returns-clause-here : goal.returns-clause-here
-returns-clause-here c =
+pub returns : goal.returns
+returns c =
     let seen = c.args.seen.now in
     let number = c.args.number in
-    let place : ℕ = number / 64 % length seen in
-    let v : ℕ → ℕ = λ w. bit_or (get_or seen w 0) (1 * 2 ^ (number % 64) % 2 ^ 64) in
-    ap (λ w. bit_of (set seen w (v w)) number) c.word_of-word.ensures.is
-    ∙ its_bit seen number (v place) c.requires
-    ∙ bit_at_set_same w64 (get_or seen place 0) (number % 64) (omega arith)
-
-pub returns-clause-others : goal.returns-clause-others
-returns-clause-others c n unshared =
-    let seen = c.args.seen.now in
-    let number = c.args.number in
-    let place : ℕ = number / 64 % length seen in
-    let v : ℕ → ℕ = λ w. bit_or (get_or seen w 0) (1 * 2 ^ (number % 64) % 2 ^ 64) in
-    ap (λ w. bit_of (set seen w (v w)) n) c.word_of-word.ensures.is
-    ∙ other_bits seen number (v place) c.requires
-    (λ i within other. bit_at_set_other w64 (get_or seen place 0) (number % 64) (omega arith) i other) n unshared
+    let word = get_or seen (number / 64 % length seen) 0 in
+    rw c.word_of-word.ensures.is (record {
+      here = its_bit seen number _ c.requires ∙ bit_at_set_same w64 word (number % 64) (omega arith);
+      others = other_bits seen number _ c.requires (λ i within other.
+          bit_at_set_other w64 word (number % 64) (omega arith) i other);
+    })

@@ -25,6 +25,6 @@ returns g c =
     rw (← c.self.view_is) (record {
       next = omega arith;
       words = last;
-      left = left_above was.next number c.max.result was.seen c.clear.new.seen c.set-2.new.seen len last c.if-number-self.false low
-          c.clear.ensures.cleared c.clear.ensures.others c.set-2.ensures.here c.set-2.ensures.others;
+      left = left_above was.next number c.max.result was.seen c.clear.new.seen c.set-2.new.seen (omega arith) len last
+          c.if-number-self.false low c.clear.ensures.cleared c.clear.ensures.others c.set-2.ensures.here c.set-2.ensures.others;
     })
