@@ -1,5 +1,5 @@
 -- Fields that are written one after another.
-use Rattle.std.proofs.Common.{◌≡◌, ℕ, zero, suc, refl, ◌+◌, ◌≤◌, List, ◌++◌, length, take, drop, sym, ap, ap₂, ◌∙◌, arith, append_assoc, drop_at, length-append, length-take-le, take_at, zero-add}
+use Rattle.std.proofs.Common.{◌≡◌, ℕ, zero, suc, refl, ◌+◌, ◌≤◌, List, ◌++◌, length, take, drop, sym, ap, ◌∙◌, arith, append_assoc, drop_at, length-append, length-take-le, take_at, zero-add}
 use Rattle.std.proofs.lemmas.List.{drop-drop}
 use Rattle.std.specs.Int.{bytes_high_first}
 use Rattle.quic_packets.specs.HeaderBytes.{with_field}
@@ -11,17 +11,10 @@ both at next xs ys buffer within is =
     let front : List ℕ = take at buffer ++ xs in
     let rest : List ℕ = drop (at + length xs) buffer in
     let whole : with_field at xs buffer ≡ front ++ rest = sym (append_assoc (take at buffer) xs rest) in
-    let len : length front ≡ next =
-    length-append (take at buffer) xs ∙ ap (λ n. n + length xs) (length-take-le at buffer within) ∙ sym is in
-    let before : take next (with_field at xs buffer) ≡ front = ap (take next) whole ∙ take_at front rest next len in
-    let after : drop (next + length ys) (with_field at xs buffer) ≡ drop (at + length (xs ++ ys)) buffer =
-    sym (drop-drop (length ys) next (with_field at xs buffer))
-    ∙ ap (λ l. drop (length ys) l) (ap (drop next) whole ∙ drop_at front rest next len)
-    ∙ drop-drop (length ys) (at + length xs) buffer
-    ∙ ap (λ n. drop n buffer) (omega (arith, length-append xs ys)) in
-    ap₂ (λ l r. l ++ (ys ++ r)) before after
-    ∙ append_assoc (take at buffer) xs (ys ++ drop (at + length (xs ++ ys)) buffer)
-    ∙ ap (λ l. take at buffer ++ l) (sym (append_assoc xs ys (drop (at + length (xs ++ ys)) buffer)))
+    let len : length front ≡ next = length-append (take at buffer) xs ∙ omega (arith, is, length-take-le at buffer within) in
+    let end : at + length (xs ++ ys) ≡ at + length xs + length ys = omega (arith, length-append xs ys) in
+    rw (whole, take_at front rest next len, ← drop-drop (length ys) next (front ++ rest), drop_at front rest next len)
+    (rw (drop-drop (length ys) (at + length xs) buffer, end) (simp append_assoc))
 
 pub length-high_first : (k n : ℕ) → length (bytes_high_first k n) ≡ k
 length-high_first zero n = refl

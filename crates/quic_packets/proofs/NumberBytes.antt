@@ -7,6 +7,7 @@ use Rattle.std.proofs.lemmas.Nat.{pow-add}
 use Rattle.std.specs.Int.{byte_at, bytes_high_first}
 use Rattle.std.specs.Int.Digits.{number_from_digits, number_from_digits_after}
 use Rattle.quic_packets.specs.Packet.{low_bytes}
+use Rattle.quic_packets.proofs.FieldLemmas.{length-high_first}
 
 power_256 : (k : ℕ) → 256 ^ k ≡ 2 ^ (8 * k)
 power_256 zero = refl
@@ -34,10 +35,7 @@ low_is (suc (suc (suc (suc (suc k))))) n some few = absurd (omega arith)
 low_is k n some few = refl
 
 pub length-low_bytes : (k n : ℕ) → 0 < k → k ≤ 4 → length (low_bytes k n) ≡ k
-unfolding low_bytes
-length-low_bytes zero n some few = absurd (omega arith)
-length-low_bytes (suc (suc (suc (suc (suc k))))) n some few = absurd (omega arith)
-length-low_bytes k n some few = refl
+length-low_bytes k n some few = ap length (low_is k n some few) ∙ length-high_first k n
 
 -- the low bytes of a number are its low bits
 pub number_low_bytes : (k n : ℕ) → 0 < k → k ≤ 4 → number_from_digits 256 (low_bytes k n) ≡ n % 2 ^ (8 * k)

@@ -1,8 +1,8 @@
 -- The ranges of skipped numbers: which numbers they have after another skip.
-use Rattle.std.proofs.Common.{◌≡◌, ℕ, zero, suc, ◌<◌, ◌≤◌, inl, inr, true, false, List, [], ◌∷◌, take, drop, refl, subst, arith}
-use Rattle.std.proofs.lemmas.Bool.{cases_Bool, cases_lt, cond_both, eqb-true, le-leb, le-ltb, lt-leb, lt-ltb, or_from, or_parts}
-use Rattle.std.proofs.Math.Bool.{and-false}
-use Rattle.std.specs.Prelude.{replicate, ◌==◌, if◌then◌else◌}
+use Rattle.std.proofs.Common.{◌≡◌, ℕ, zero, suc, ◌<◌, ◌≤◌, inl, inr, false, List, [], ◌∷◌, take, drop, refl, arith}
+use Rattle.std.proofs.lemmas.Bool.{cases_Bool, cond_both, eqb-true, or_from, or_parts}
+use Rattle.std.proofs.lemmas.Bool.Decides.{nat_tests}
+use Rattle.std.specs.Prelude.{◌==◌}
 use Rattle.quic_packets.specs.Skipped.{forgotten, highest_end, is_in_gap, is_skipped, no_gaps, with_gap}
 use Rattle.quic_packets.specs.declared.skipped.Gap.{Gap}
 
@@ -11,12 +11,8 @@ abbrev pub IsBelow : ℕ → List Gap → Type 0
 IsBelow top [] = Unit {0}
 IsBelow top (gap ∷ gaps) = (gap.start ≤ top) × (gap.end ≤ top) × IsBelow top gaps
 
-empty_below : (k top : ℕ) → IsBelow top (replicate k (record { start = 0; end = 0 }))
-empty_below zero top = tt
-empty_below (suc k) top = (omega arith, omega arith, empty_below k top)
-
 pub none_below : (top : ℕ) → IsBelow top no_gaps
-none_below top = empty_below 8 top
+none_below top = omega arith
 
 pub below_more : (a b : ℕ) (gaps : List Gap) → a ≤ b → IsBelow a gaps → IsBelow b gaps
 below_more a b [] le is = tt
@@ -28,45 +24,32 @@ below_take k top gaps is = tt
 
 -- a number that is in no range
 over : (n : ℕ) (gap : Gap) → gap.end ≤ n → is_in_gap n gap ≡ false
-over n gap le = rw (le-ltb n gap.end le) (and-false _)
+over n gap le = grind (arith, nat_tests)
 
 under : (n : ℕ) (gap : Gap) → n < gap.start → is_in_gap n gap ≡ false
-under n gap lt = rw (lt-leb gap.start n lt) refl
-
-inside : (n : ℕ) (gap : Gap) → gap.start ≤ n → n < gap.end → is_in_gap n gap ≡ false → ⊥
-inside n gap from lt not =
-    let yes : is_in_gap n gap ≡ true = rw (le-leb gap.start n from, lt-ltb n gap.end lt) refl in
-    absurd cc
+under n gap lt = grind (arith, nat_tests)
 
 below_start : (n : ℕ) (gap : Gap) → n < gap.end → is_in_gap n gap ≡ false → n < gap.start
-below_start n gap lt not = elim (cases_lt n gap.start) [
-  | inl before ↦ before
-  | inr from ↦ absurd (inside n gap from lt not)
-]
+below_start n gap lt not = grind (arith, nat_tests)
 
-pub free_above : (top n : ℕ) (gaps : List Gap) → top ≤ n → IsBelow top gaps → is_skipped gaps n ≡ false
-free_above top n [] le is = refl
-free_above top n (gap ∷ gaps) le is =
-    or_from (is_in_gap n gap) (is_skipped gaps n) (over n gap (omega (arith, is.1))) (free_above top n gaps le is.2)
+highest : (top : ℕ) (gaps : List Gap) → IsBelow top gaps → highest_end gaps ≤ top
+highest top [] is = omega arith
+highest top (gap ∷ gaps) is = omega (arith, is.1, highest top gaps is.2)
 
 free_over : (n : ℕ) (gaps : List Gap) → highest_end gaps ≤ n → is_skipped gaps n ≡ false
 free_over n [] le = refl
-free_over n (gap ∷ gaps) le =
-    or_from (is_in_gap n gap) (is_skipped gaps n)
-    (over n gap (omega (arith, le)))
-    (free_over n gaps (omega (arith, le)))
+free_over n (gap ∷ gaps) le = or_from _ _ (over n gap (omega (arith, le))) (free_over n gaps (omega (arith, le)))
+
+pub free_above : (top n : ℕ) (gaps : List Gap) → top ≤ n → IsBelow top gaps → is_skipped gaps n ≡ false
+free_above top n gaps le is = free_over n gaps (omega (arith, highest top gaps is))
 
 joined : (k n : ℕ) (gaps : List Gap) → is_skipped (take k gaps) n ≡ false → is_skipped (drop k gaps) n ≡ false → is_skipped gaps n ≡ false
 joined zero n gaps front back = back
 joined (suc k) n [] front back = refl
-joined (suc k) n (gap ∷ gaps) front back =
-    let parts = or_parts (is_in_gap n gap) (is_skipped (take k gaps) n) front in
-    or_from (is_in_gap n gap) (is_skipped gaps n) parts.0 (joined k n gaps parts.1 back)
+joined (suc k) n (gap ∷ gaps) front back = let parts = or_parts _ _ front in or_from _ _ parts.0 (joined k n gaps parts.1 back)
 
 taken : (k n : ℕ) (gaps : List Gap) → is_skipped gaps n ≡ false → is_skipped (take k gaps) n ≡ false
-taken (suc k) n (gap ∷ gaps) free =
-    let parts = or_parts (is_in_gap n gap) (is_skipped gaps n) free in
-    or_from (is_in_gap n gap) (is_skipped (take k gaps) n) parts.0 (taken k n gaps parts.1)
+taken (suc k) n (gap ∷ gaps) free = let parts = or_parts _ _ free in or_from _ _ parts.0 (taken k n gaps parts.1)
 taken k n gaps free = refl
 
 -- After a skip from `s` up to `e`.
@@ -86,50 +69,30 @@ below_with s e (last ∷ lower) le is =
 -- a number that is then in no range, and isn't so low that it may have been forgotten, was in none, and is below those that were skipped
 pub unskipped : (s e n : ℕ) (gaps : List Gap) → IsBelow s gaps → n < e → forgotten gaps s ≤ n → is_skipped (with_gap gaps s e) n ≡ false
     → (n < s) × (is_skipped gaps n ≡ false)
-unskipped s e n [] is lt high free =
-    let parts = or_parts (is_in_gap n (next_gap s e)) false free in
-    (below_start n (next_gap s e) lt parts.0, refl)
+unskipped s e n [] is lt high free = (below_start n (next_gap s e) lt (or_parts _ false free).0, refl)
 unskipped s e n (last ∷ lower) is lt high free =
     elim (cases_Bool (last.end == s)) [
-      | inl same ↦ (
-          let end : last.end ≡ s = eqb-true last.end s same in
-          let now : is_skipped (longer last e ∷ lower) n ≡ false =
-          subst (λ b. is_skipped (if b then longer last e ∷ lower else next_gap s e ∷ take 7 (last ∷ lower)) n ≡ false) same free in
-          let parts = or_parts (is_in_gap n (longer last e)) (is_skipped lower n) now in
-          let before : n < last.start = below_start n (longer last e) lt parts.0 in
-          (omega (arith, is.0), or_from (is_in_gap n last) (is_skipped lower n) (under n last before) parts.1)
-          )
-      | inr other ↦ (
-          let now : is_skipped (next_gap s e ∷ take 7 (last ∷ lower)) n ≡ false =
-          subst (λ b. is_skipped (if b then longer last e ∷ lower else next_gap s e ∷ take 7 (last ∷ lower)) n ≡ false) other free in
-          let top : highest_end (drop 7 (last ∷ lower)) ≤ n =
-          subst (λ b. (if b then 0 else highest_end (drop 7 (last ∷ lower))) ≤ n) other high in
-          let parts = or_parts (is_in_gap n (next_gap s e)) (is_skipped (take 7 (last ∷ lower)) n) now in (
-            below_start n (next_gap s e) lt parts.0,
-            joined 7 n (last ∷ lower) parts.1 (free_over n (drop 7 (last ∷ lower)) top),
-          )
-          )
+      | inl same ↦
+          let parts = or_parts _ _ (rw same at free) in
+          let before = below_start n (longer last e) lt parts.0 in
+          (omega (arith, before, is.0), or_from _ _ (under n last before) parts.1)
+      | inr other ↦
+          let parts = or_parts _ _ (rw other at free) in
+          let below = below_start n (next_gap s e) lt parts.0 in
+          (below, joined 7 n (last ∷ lower) parts.1 (free_over n (drop 7 (last ∷ lower)) (rw other at high)))
     ]
 
 -- a number below those that were skipped, which was in no range, is in none
 pub still_free : (s e n : ℕ) (gaps : List Gap) → n < s → is_skipped gaps n ≡ false → is_skipped (with_gap gaps s e) n ≡ false
-still_free s e n [] lt free = or_from (is_in_gap n (next_gap s e)) false (under n (next_gap s e) lt) refl
+still_free s e n [] lt free = or_from _ false (under n (next_gap s e) lt) refl
 still_free s e n (last ∷ lower) lt free =
     let parts = or_parts (is_in_gap n last) (is_skipped lower n) free in
-    cond_both (last.end == s) (longer last e ∷ lower) (next_gap s e ∷ take 7 (last ∷ lower)) (λ gaps. is_skipped gaps n ≡ false)
-    (λ same. (
-    let end : last.end ≡ s = eqb-true last.end s same in
-    or_from (is_in_gap n (longer last e)) (is_skipped lower n) (elim (cases_lt n last.start) [
-      | inl before ↦ under n (longer last e) before
-      | inr from ↦ absurd (inside n last from (omega arith) parts.0)
-    ]) parts.1
-    ))
-    (λ other. or_from (is_in_gap n (next_gap s e)) (is_skipped (take 7 (last ∷ lower)) n) (under n (next_gap s e) lt)
-    (taken 7 n (last ∷ lower) free))
-
-highest : (top : ℕ) (gaps : List Gap) → IsBelow top gaps → highest_end gaps ≤ top
-highest top [] is = omega arith
-highest top (gap ∷ gaps) is = omega (arith, is.1, highest top gaps is.2)
+    elim (cases_Bool (last.end == s)) [
+      | inl same ↦
+          let end : last.end ≡ s = eqb-true last.end s same in
+          rw same (or_from _ _ (under n (longer last e) (below_start n last (omega arith) parts.0)) parts.1)
+      | inr other ↦ rw other (or_from _ _ (under n (next_gap s e) lt) (taken 7 n (last ∷ lower) free))
+    ]
 
 highest_below : (k top : ℕ) (gaps : List Gap) → IsBelow top gaps → highest_end (drop k gaps) ≤ top
 highest_below zero top gaps is = highest top gaps is
