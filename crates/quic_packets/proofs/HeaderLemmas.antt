@@ -35,38 +35,31 @@ number_back : (mask : List ℕ) (at n i j : ℕ) (old mid new : List ℕ) → at
     → get_or new i 0 ≡ get_or old i 0
 number_back mask at n i j old mid new e h p u =
     let m = get_or mask (j + 1) 0 in
-    let here : get_or new (at + j) 0 ≡ get_or old (at + j) 0 =
-    u.number j h ∙ ap (λ v. bit_xor v m) (p.number j h) ∙ xor_twice (get_or old (at + j) 0) m in
-    subst (λ k. get_or new k 0 ≡ get_or old k 0) e here
-
-other_back : (mask : List ℕ) (at n i : ℕ) (old mid new : List ℕ) → 0 < i → (i < at) ⊎ (at + n ≤ i)
-    → Masked mask at n old mid → Masked mask at n mid new
-    → get_or new i 0 ≡ get_or old i 0
-other_back mask at n i old mid new h o p u = u.others i h o ∙ p.others i h o
+    rw (← e) (u.number j h ∙ ap (λ v. bit_xor v m) (p.number j h) ∙ xor_twice (get_or old (at + j) 0) m)
 
 each_back : (mask : List ℕ) (at n i : ℕ) (old mid new : List ℕ) → Masked mask at n old mid → Masked mask at n mid new
     → get_or new i 0 ≡ get_or old i 0
 each_back mask at n zero old mid new p u = first_back mask at n n old mid new p u
 each_back mask at n (suc i) old mid new p u =
     elim (cases_lt (suc i) at) [
-      | inl before ↦ other_back mask at n (suc i) old mid new (omega arith) (inl before) p u
+      | inl before ↦ u.others (suc i) (omega arith) (inl before) ∙ p.others (suc i) (omega arith) (inl before)
       | inr from ↦ elim (cases_lt (suc i) (at + n)) [
         | inl within ↦ number_back mask at n (suc i) (suc i - at) old mid new (omega arith) (omega arith) p u
-        | inr behind ↦ other_back mask at n (suc i) old mid new (omega arith) (inr behind) p u
+        | inr behind ↦ u.others (suc i) (omega arith) (inr behind) ∙ p.others (suc i) (omega arith) (inr behind)
       ]
     ]
 
 masked_twice : (mask : List ℕ) (at n : ℕ) (old mid new : List ℕ) → Masked mask at n old mid → Masked mask at n mid new → new ≡ old
 masked_twice mask at n old mid new p u = ext_get_or 0 new old (u.len ∙ p.len) (λ i h. each_back mask at n i old mid new p u)
 
-same_range : (from len : ℕ) (xs ys : List ℕ) → from + len ≤ length ys → length xs ≡ length ys → ((i : ℕ) → from ≤ i → get_or xs i 0 ≡ get_or ys i 0)
-    → take len (drop from xs) ≡ take len (drop from ys)
-same_range from len xs ys fits e same =
+pub same_range : (from len : ℕ) (xs ys : List ℕ) → from + len ≤ length xs → from + len ≤ length ys
+    → ((i : ℕ) → from ≤ i → i < from + len → get_or xs i 0 ≡ get_or ys i 0) → take len (drop from xs) ≡ take len (drop from ys)
+same_range from len xs ys fits fits' same =
     let l : length (take len (drop from xs)) ≡ len = length-take-le len (drop from xs) (omega (arith, length-drop from xs)) in
     let r : length (take len (drop from ys)) ≡ len = length-take-le len (drop from ys) (omega (arith, length-drop from ys)) in
     ext_get_or 0 (take len (drop from xs)) (take len (drop from ys)) (l ∙ sym r)
     (λ i h. let lt : i < len = omega arith in
-    get_or-take len (drop from xs) i 0 lt ∙ get_or-drop from xs i 0 ∙ same (from + i) (omega arith)
+    get_or-take len (drop from xs) i 0 lt ∙ get_or-drop from xs i 0 ∙ same (from + i) (omega arith) (omega arith)
     ∙ sym (get_or-take len (drop from ys) i 0 lt ∙ get_or-drop from ys i 0))
 
 pub number_len-le : (first : ℕ) → number_len first ≤ 4
@@ -80,7 +73,7 @@ same_mask key at packet wire h p =
     let width : at + 20 - (at + 4) ≡ 16 = omega arith in
     let sampled : at + 4 + 16 ≤ length packet = omega (arith, h.sampled) in
     let same : take 16 (drop (at + 4) wire) ≡ take 16 (drop (at + 4) packet) =
-    same_range (at + 4) 16 wire packet sampled p.len (λ i le. p.others i (omega arith) (inr (omega arith))) in
+    same_range (at + 4) 16 wire packet (omega (arith, p.len)) sampled (λ i le lt. p.others i (omega arith) (inr (omega arith))) in
     ap (header_protection key.algorithm key.bytes)
     (ap (λ k. take k (drop (at + 4) wire)) width ∙ same ∙ sym (ap (λ k. take k (drop (at + 4) packet)) width))
 

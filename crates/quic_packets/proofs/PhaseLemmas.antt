@@ -1,11 +1,11 @@
 -- The numbers that a sender counts acknowledgments of: each was sent in the current key phase. And the first number of the phase.
-use Rattle.std.proofs.Common.{◌≡◌, ℕ, suc, ◌+◌, ◌<◌, ◌≤◌, inl, inr, true, false, max, List, ◌∷◌, get_or, refl, subst, arith}
+use Rattle.std.proofs.Common.{◌≡◌, ℕ, suc, ◌+◌, ◌<◌, ◌≤◌, inl, inr, true, false, List, ◌∷◌, get_or, refl, subst, arith}
 use Rattle.std.proofs.lemmas.Bool.{cases_lt, le-ltb, leb-false, leb-true, lt-leb, lt-ltb, or_from, or_parts}
 use Rattle.std.proofs.lemmas.List.Elements.{All-cons, All-contains, All-nil, All-weaker}
 use Rattle.std.specs.Prelude.{All, Contains, IsFalse, IsTrue, length, nat_le, ◌↔◌, ◌⊎◌, ◌||◌}
 use Rattle.quic_packets.specs.Exchange.{HasSent, Life, Sent, Update, WasSentInPhase, begins, confirms, hears, lowers, sends, skips, updates, updates_before}
 use Rattle.quic_packets.specs.Sending.{Sender, after_acknowledgement, is_unsent, numbered_packet}
-use Rattle.quic_packets.specs.Skipped.{forgotten, is_skipped, no_gaps}
+use Rattle.quic_packets.specs.Skipped.{is_skipped, no_gaps}
 use Rattle.quic_packets.specs.declared.skipped.Gap.{Gap}
 use Rattle.quic_packets.proofs.SentLemmas.{before-le, before_all}
 use Rattle.quic_packets.proofs.SkippedLemmas.{IsBelow, below_more, below_with, forgotten_below, free_above, none_below, still_free, unskipped}
@@ -33,14 +33,6 @@ record Run (first next phase : ℕ) (gaps : List Gap) (life : Life) (sent : List
 earlier : (u : Update) (us : List Update) (n : ℕ) → n < u.first → updates_before (u ∷ us) n < length (u ∷ us)
 earlier u us n lt = rw (lt-leb u.first n lt) (omega (arith, before-le us n))
 
--- where each update before a number begins
-module _ (life : Life) (was now : ℕ) (le : was ≤ now) where
-  still_begun : All (λ u. u.first ≤ was) life.updates → All (λ u. u.first ≤ now) life.updates
-  still_begun begun = All-weaker (λ u. u.first ≤ was) (λ u. u.first ≤ now) (λ u h. omega (arith, le)) life.updates begun
-
-  still_below : (sent : List Sent) → All (λ p. p.number < was) sent → All (λ p. p.number < now) sent
-  still_below sent below = All-weaker (λ p. p.number < was) (λ p. p.number < now) (λ p h. omega (arith, le)) sent below
-
 run_of : (s : Sender) (life : Life) (sent : List Sent) → HasSent s life sent
     → Run s.first s.next s.first_of_phase s.skipped life sent
 run_of s life sent (begins version key header_key secret from) = record {
@@ -67,7 +59,7 @@ run_of t l ps (sends s life sent fixed_bit start end packet wire sealable turn i
       begun = run.begun;
       order = omega (arith, run.order);
       ranges = below_more s.next (s.next + 1) s.skipped (omega arith) run.ranges;
-      below = All-cons (λ q. q.number < s.next + 1) p sent (omega arith) (still_below life s.next (s.next + 1) (omega arith) sent run.below);
+      below = All-cons (λ q. q.number < s.next + 1) p sent (omega arith) (λ i d lt. omega (arith, run.below i d lt));
       used = All-cons (λ q. is_skipped s.skipped q.number ≡ false) p sent (free_above s.next s.next s.skipped (omega arith) run.ranges) run.used;
       each = λ n le lt free. elim (cases_lt n s.next) [
         | inl earlier ↦ has_more n p sent (run.each n le earlier free)
@@ -80,39 +72,28 @@ run_of t l ps (sends s life sent fixed_bit start end packet wire sealable turn i
     }
 run_of t l ps (skips s life sent number le before) =
     let run = run_of s life sent before in
-    let below = still_below life s.next number le sent run.below in
-    let phase_order : s.first_of_phase ≤ number = omega (arith, run.phase_order) in
     elim (cases_lt s.next number) [
       | inl gap ↦ rw (lt-ltb s.next number gap) (record {
-        begun = still_begun life s.first (max s.first (forgotten s.skipped s.next)) (omega arith) run.begun;
+        begun = λ i d at. omega (arith, run.begun i d at);
         order = omega (arith, run.order, forgotten_below s.next s.skipped run.ranges);
         ranges = below_with s.next number s.skipped le run.ranges;
-        below = below;
+        below = λ i d at. omega (arith, run.below i d at);
         used = λ i d at. still_free s.next number (get_or sent i d).number s.skipped (run.below i d at) (run.used i d at);
         each = λ n from lt free. (
             let was = unskipped s.next number n s.skipped run.ranges lt (omega (arith, from)) free in
             run.each n (omega (arith, from)) was.0 was.1
             );
         phase_begun = run.phase_begun;
-        phase_order = phase_order;
+        phase_order = omega (arith, run.phase_order);
         phases = run.phases;
       })
-      | inr none ↦ rw (le-ltb s.next number none) (record {
-        begun = run.begun;
-        order = omega (arith, run.order);
-        ranges = below_more s.next number s.skipped le run.ranges;
-        below = below;
-        used = run.used;
-        each = λ n from lt free. run.each n from (omega arith) free;
-        phase_begun = run.phase_begun;
-        phase_order = phase_order;
-        phases = run.phases;
-      })
+      | inr none ↦ (let same : number ≡ s.next = omega arith in rw (le-ltb s.next number none, same) run)
     ]
 run_of t l ps (updates s life sent key secret before) =
     let run = run_of s life sent before in
     let u : Update = record { key = key; first = s.next } in
-    let begun = All-cons (λ u. u.first ≤ s.next) u life.updates (omega arith) (still_begun life s.first s.next run.order run.begun) in
+    let begun =
+    All-cons (λ u. u.first ≤ s.next) u life.updates (omega arith) (λ i d lt. omega (arith, run.order, run.begun i d lt)) in
     record {
       begun = begun;
       order = omega arith;
@@ -138,7 +119,7 @@ acknowledged_was_sent s life sent number calls was taken now =
     let parts = or_parts (nat_le s.next number) (is_skipped s.skipped number) taken in
     record {
       was_sent = run.each number from (leb-false s.next number parts.0) parts.1;
-      in_phase = before_all life.updates number (still_begun life s.first number from run.begun);
+      in_phase = before_all life.updates number (λ i d lt. omega (arith, run.begun i d lt));
     }
 
 pub sent_is_acknowledged : (s : Sender) (life : Life) (sent : List Sent) (p : Sent) → HasSent s life sent → Contains sent p
@@ -149,17 +130,11 @@ sent_is_acknowledged s life sent p calls has =
     (lt-leb s.next p.number (All-contains (λ q. q.number < s.next) sent p run.below has))
     (All-contains (λ q. is_skipped s.skipped q.number ≡ false) sent p run.used has)
 
--- of two facts, the first if the second is false
-first_of : (A B : Type 0) → (A ⊎ B) → (B → ⊥) → A
-first_of A B (inl a) not = a
-first_of A B (inr b) not = absurd (not b)
-
 pub of_phase : (s : Sender) (life : Life) (sent : List Sent) (p : Sent) → HasSent s life sent → Contains sent p
     → (updates_before life.updates p.number ≡ length life.updates) ↔ (s.first_of_phase ≤ p.number)
 of_phase s life sent p calls has =
-    let run = run_of s life sent calls in (
-      λ all. first_of (s.first_of_phase ≤ p.number) (updates_before life.updates p.number < length life.updates)
-          (All-contains (λ q. (s.first_of_phase ≤ q.number) ⊎ (updates_before life.updates q.number < length life.updates)) sent p run.phases has)
-          (λ lt. omega (arith, all, lt)),
-      λ from. before_all life.updates p.number (still_begun life s.first_of_phase p.number from run.phase_begun),
+    let run = run_of s life sent calls in
+    let P : Sent → Type 0 = λ q. (s.first_of_phase ≤ q.number) ⊎ (updates_before life.updates q.number < length life.updates) in (
+      λ all. omega (arith, all, All-contains P sent p run.phases has),
+      λ from. before_all life.updates p.number (λ i d lt. omega (arith, run.phase_begun i d lt)),
     )

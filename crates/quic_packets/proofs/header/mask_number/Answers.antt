@@ -1,4 +1,4 @@
-use Rattle.std.proofs.Common.{◌≡◌, ◌≢◌, ℕ, ◌+◌, ◌<◌, ◌≤◌, List, bit_xor, get_or, length, set, inl, inr, ap, sym, subst, ◌∙◌, arith}
+use Rattle.std.proofs.Common.{◌≡◌, ◌≢◌, ℕ, ◌+◌, ◌<◌, ◌≤◌, List, bit_xor, get_or, length, set, inl, inr, ap, ◌∙◌, arith}
 use Rattle.std.proofs.lemmas.Bool.{cases_eq}
 use Rattle.std.proofs.lemmas.List.{get_or-set_other, get_or-set_same}
 use Rattle.std.proofs.lemmas.Nat.{xor_comm}
@@ -20,8 +20,7 @@ module _ (number_len i byte : ℕ) (old mid mask : List ℕ) (inside : i < lengt
       → (k : ℕ) → k < i + 1 → k < number_len → get_or new k 0 ≡ bit_xor (get_or old k 0) (get_or mask (k + 1) 0)
   number_more was k up few =
       elim (cases_eq k i) [
-        | inl same ↦ subst (λ k. get_or new k 0 ≡ bit_xor (get_or old k 0) (get_or mask (k + 1) 0)) (sym same)
-            (at_it ∙ ap (bit_xor (get_or old i 0)) (below (omega (arith, same, few))))
+        | inl same ↦ rw same (at_it ∙ ap (bit_xor (get_or old i 0)) (below (omega (arith, same, few))))
         | inr other ↦ elsewhere k other ∙ was k (omega (arith, other)) few
       ]
 
@@ -31,8 +30,8 @@ module _ (number_len i byte : ℕ) (old mid mask : List ℕ) (inside : i < lengt
   others_more : ((k : ℕ) → number_len ≤ k → get_or mid k 0 ≡ get_or old k 0) → (k : ℕ) → number_len ≤ k → get_or new k 0 ≡ get_or old k 0
   others_more was k from =
       elim (cases_eq k i) [
-        | inl same ↦ subst (λ k. get_or new k 0 ≡ get_or old k 0) (sym same)
-            (at_it ∙ ap (bit_xor (get_or old i 0)) (above (omega (arith, same, from))) ∙ xor_comm (get_or old i 0) 0)
+        | inl same ↦
+            rw same (at_it ∙ ap (bit_xor (get_or old i 0)) (above (omega (arith, same, from))) ∙ xor_comm (get_or old i 0) 0)
         | inr other ↦ elsewhere k other ∙ was k from
       ]
 
