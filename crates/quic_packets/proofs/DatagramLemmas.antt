@@ -1,13 +1,12 @@
 -- The packets of a datagram.
-use Rattle.std.proofs.Common.{◌≡◌, ℕ, suc, ◌+◌, ◌-◌, ◌*◌, ◌/◌, ◌%◌, ◌^◌, ◌<◌, ◌≤◌, List, get_or, take, drop, sym, ap, ap₂, subst, refl, ◌∙◌, arith, mul_comm, pow-suc}
+use Rattle.std.proofs.Common.{◌≡◌, ℕ, suc, ◌+◌, ◌-◌, ◌*◌, ◌/◌, ◌%◌, ◌^◌, ◌<◌, ◌≤◌, List, get_or, take, drop, sym, ap, ap₂, subst, ◌∙◌, arith, mul_comm, pow-suc}
 use Rattle.std.proofs.Math.Nat.{pow-le-pow_right}
 use Rattle.std.proofs.lemmas.Nat.{one_shl, pow_pos}
 use Rattle.std.proofs.lemmas.Bool.{cond_both, ltb-false}
 use Rattle.std.specs.Int.Digits.{number_from_digits}
-use Rattle.std.proofs.Math.Nat.{le-max_left}
 use Rattle.std.specs.Prelude.{Err, IfOk, IfSome, IsErrOf, None, Ok, Option, Result, Some, false, length, nat_lt, slice_index, ◌==◌}
 use Rattle.std.specs.declared.ops.Range.{Range}
-use Rattle.quic_packets.specs.Datagram.{IsIn, IsPlaced, has_long_id, initial_token, known_layout, long_packet, numbered_layout, opaque_layout, parts_of, retry_layout, short_layout, source_end, span, typed_layout, varint, version_of, versioned_layout, whole, with_fixed_bit}
+use Rattle.quic_packets.specs.Datagram.{IsIn, IsPlaced, has_long_id, initial_token, known_layout, long_packet, numbered_layout, opaque_layout, parts_of, short_layout, source_end, span, typed_layout, varint, version_of, versioned_layout, whole, with_fixed_bit}
 use Rattle.quic_packets.specs.declared.datagram.DatagramError.{DatagramError}
 use Rattle.quic_packets.specs.declared.datagram.PacketType.{PacketType}
 use Rattle.quic_packets.specs.declared.datagram.PacketType.TheVariants.{Initial, Retry, VersionNegotiation, OtherVersion}
@@ -70,78 +69,34 @@ whole_placed start d p laid =
     (λ e. record { begins = laid.begins; some = laid.some; within = ltb-false (length d) p.end e; number = laid.number; ranges = laid.ranges })
 
 short_laid : (id_len : ℕ) (d : List ℕ) (start : ℕ) → IsLaid start (short_layout id_len d start)
-short_laid id_len d start =
-    let most = le-max_left (start + 1 + id_len) (length d) in
-    record {
-      begins = refl;
-      some = omega (arith, most);
-      number = (omega arith, most);
-      ranges = ((omega arith, omega arith, most), (omega arith, omega arith, most), (omega arith, omega arith, most));
-    }
+short_laid id_len d start = omega arith
 
 opaque_laid : (d : List ℕ) (start : ℕ) (kind : PacketType) → IsLaid start (opaque_layout d start kind)
-opaque_laid d start kind =
-    let most = le-max_left (source_end d start) (length d) in
-    record {
-      begins = refl;
-      some = omega (arith, most);
-      number = tt;
-      ranges = ((omega arith, omega arith, omega (arith, most)), (omega arith, omega arith, most), (omega arith, omega arith, most));
-    }
-
-retry_laid : (d : List ℕ) (start : ℕ) → IsLaid start (retry_layout d start)
-retry_laid d start =
-    let most = le-max_left (source_end d start + 16) (length d) in
-    record {
-      begins = refl;
-      some = omega (arith, most);
-      number = tt;
-      ranges = (
-        (omega arith, omega arith, omega (arith, most)),
-        (omega arith, omega arith, omega (arith, most)),
-        (omega arith, omega (arith, most), omega arith),
-      );
-    }
+opaque_laid d start kind = omega arith
 
 numbered_laid : (d : List ℕ) (start : ℕ) (kind : PacketType) (token : Range ℕ) → source_end d start ≤ token.start
     → token.start ≤ token.end → IsLaid start (numbered_layout d start kind token)
-numbered_laid d start kind token after ordered =
-    record {
-      begins = refl;
-      some = omega (arith, after, ordered);
-      number = (omega (arith, after, ordered), omega arith);
-      ranges = (
-        (omega arith, omega arith, omega (arith, after, ordered)),
-        (omega arith, omega arith, omega (arith, after, ordered)),
-        (omega (arith, after), ordered, omega arith),
-      );
-    }
-
-plain_laid : (d : List ℕ) (start : ℕ) (kind : PacketType)
-    → IsLaid start (numbered_layout d start kind (span (source_end d start) (source_end d start)))
-plain_laid d start kind = numbered_laid d start kind (span (source_end d start) (source_end d start)) (omega arith) (omega arith)
+numbered_laid d start kind token after ordered = omega (arith, after, ordered)
 
 typed_laid : (d : List ℕ) (start : ℕ) (kind : PacketType) → IsLaid start (typed_layout kind d start)
 typed_laid d start Initial = numbered_laid d start Initial (initial_token d start) (omega arith) (omega arith)
-typed_laid d start Retry = retry_laid d start
-typed_laid d start kind = plain_laid d start kind
+typed_laid d start Retry = omega arith
+typed_laid d start kind = numbered_laid d start kind (span (source_end d start) (source_end d start)) (omega arith) (omega arith)
 
 known_laid : (d : List ℕ) (start : ℕ) (version : Option Version) → IsLaid start (known_layout version d start)
 known_laid d start (Some version) = typed_laid d start (type_of version (bits_of (get_or d start 0)))
 known_laid d start None = opaque_laid d start OtherVersion
 
-versioned_laid : (d : List ℕ) (start : ℕ) → IsLaid start (versioned_layout d start)
-versioned_laid d start =
-    let version = version_of d start in
-    cond_both (version == 0) (opaque_layout d start VersionNegotiation) (known_layout (numbered_version version) d start) (IsLaid start)
-    (λ e. opaque_laid d start VersionNegotiation) (λ e. known_laid d start (numbered_version version))
-
 packet_placed : (id_len : ℕ) (d : List ℕ) (start : ℕ) → Placed start d (parts_of id_len d start)
 packet_placed id_len d start =
+    let version = version_of d start in
     cond_both (nat_lt (get_or d start 0) 0x80) (whole d (short_layout id_len d start)) (long_packet d start) (Placed start d)
     (λ e. whole_placed start d (short_layout id_len d start) (short_laid id_len d start))
     (λ e. cond_both (has_long_id d start) (Err IdTooLong) (whole d (versioned_layout d start)) (Placed start d)
-    (λ e. tt) (λ e. whole_placed start d (versioned_layout d start) (versioned_laid d start)))
+    (λ e. tt) (λ e. whole_placed start d (versioned_layout d start)
+    (cond_both (version == 0) (opaque_layout d start VersionNegotiation) (known_layout (numbered_version version) d start)
+    (IsLaid start)
+    (λ e. opaque_laid d start VersionNegotiation) (λ e. known_laid d start (numbered_version version)))))
 
 pub read_placed : (id_len : ℕ) (d : List ℕ) (start : ℕ) (p : Packet) → Ok p ≡ parts_of id_len d start → IsPlaced start d p
 read_placed id_len d start p same = subst (Placed start d) (sym same) (packet_placed id_len d start)
