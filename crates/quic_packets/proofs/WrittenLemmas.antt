@@ -1,18 +1,17 @@
 -- The parts of a header that was written.
-use Rattle.std.proofs.Common.{◌≡◌, ℕ, zero, suc, ◌+◌, ◌-◌, ◌*◌, ◌/◌, ◌%◌, ◌^◌, ◌<◌, ◌≤◌, List, [], ◌∷◌, ◌++◌, length, get_or, take, drop, refl, sym, ap, ap₂, ◌∙◌, arith, add-zero, append_assoc, drop_at, length-append, take_at, Ok, Err, Some, None, Option, Bool, false, true}
+use Rattle.std.proofs.Common.{◌≡◌, ℕ, zero, suc, ◌+◌, ◌-◌, ◌*◌, ◌/◌, ◌%◌, ◌^◌, ◌<◌, ◌≤◌, List, [], ◌∷◌, ◌++◌, length, get_or, take, drop, refl, sym, ap, ap₂, ◌∙◌, arith, add-zero, append_assoc, drop_at, length-append, take_at, Ok, Some, None, Option, Bool, false, true}
 use Rattle.std.proofs.Math.Bool.{and-false}
 use Rattle.std.proofs.Math.Seq.{get_or-append_seam}
 use Rattle.std.proofs.lemmas.Bool.{cond_both, le-ltb, lt-ltb, ltb-true}
 use Rattle.std.proofs.lemmas.List.{append-nil, get_or-append-add, get_or_append_left}
 use Rattle.std.proofs.lemmas.Nat.{pow_pos}
 use Rattle.std.specs.Int.Digits.{number_from_digits}
-use Rattle.std.specs.Prelude.{is_some, nat_lt, slice_range, ◌==◌, ◌&&◌, ◌||◌, if◌then◌else◌}
+use Rattle.std.specs.Prelude.{is_some, nat_lt, slice_range, ◌==◌}
 use Rattle.std.specs.declared.ops.Range.{Range}
-use Rattle.quic_packets.specs.Datagram.{has_long_id, initial_token, known_layout, long_packet, numbered_layout, opaque_layout, packet_of, parts_of, short_layout, source_end, span, typed_layout, varint, varint_end, versioned_layout, whole, with_fixed_bit}
-use Rattle.quic_packets.specs.declared.datagram.DatagramError.TheVariants.{Cut, IdTooLong, NoFixedBit}
+use Rattle.quic_packets.specs.Datagram.{has_long_id, initial_token, numbered_layout, packet_of, parts_of, short_layout, source_end, span, typed_layout, varint, varint_end, versioned_layout, whole}
 use Rattle.quic_packets.specs.declared.datagram.Packet.{Packet}
 use Rattle.quic_packets.specs.declared.datagram.PacketType.{PacketType}
-use Rattle.quic_packets.specs.declared.datagram.PacketType.TheVariants.{Initial as InitialPacket, ZeroRtt as ZeroRttPacket, Handshake as HandshakePacket, VersionNegotiation}
+use Rattle.quic_packets.specs.declared.datagram.PacketType.TheVariants.{Initial as InitialPacket, ZeroRtt as ZeroRttPacket, Handshake as HandshakePacket}
 use Rattle.quic_packets.specs.declared.fixed_bit.FixedBit.{FixedBit}
 use Rattle.quic_packets.specs.declared.fixed_bit.FixedBit.TheVariants.{Required, Greased}
 use Rattle.key_derivation.specs.Quic.{numbered_version, version_number}
@@ -54,22 +53,20 @@ value_of (suc zero) value few fits = ap (λ n. n % 2 ^ 14) (bytes_read 2 (1 * 2 
 value_of (suc (suc zero)) value few fits = ap (λ n. n % 2 ^ 30) (bytes_read 4 (2 * 2 ^ 30 + value) 0) ∙ omega arith
 value_of (suc (suc (suc n))) value few fits = absurd (omega arith)
 
--- the fewest bytes, and those of a Length field
-fewest_encodes : (value : ℕ) → value < 2 ^ 30 → (fewest value ≤ 2) × Encodes (fewest value) value
-fewest_encodes value lt =
-    cond_both (nat_lt value (2 ^ 6)) 0 (if nat_lt value (2 ^ 14) then 1 else 2) (λ log. (log ≤ 2) × Encodes log value)
-    (λ e. (omega arith, ltb-true value (2 ^ 6) e))
-    (λ e. cond_both (nat_lt value (2 ^ 14)) 1 2 (λ log. (log ≤ 2) × Encodes log value)
-    (λ e. (omega arith, ltb-true value (2 ^ 14) e)) (λ e. (omega arith, lt)))
-
+-- those of a Length field, and the fewest bytes
 length_encodes : (value : ℕ) → value < 2 ^ 30 → (length_log value ≤ 2) × Encodes (length_log value) value
 length_encodes value lt =
     cond_both (nat_lt value (2 ^ 14)) 1 2 (λ log. (log ≤ 2) × Encodes log value)
     (λ e. (omega arith, ltb-true value (2 ^ 14) e)) (λ e. (omega arith, lt))
 
+fewest_encodes : (value : ℕ) → value < 2 ^ 30 → (fewest value ≤ 2) × Encodes (fewest value) value
+fewest_encodes value lt =
+    cond_both (nat_lt value (2 ^ 6)) 0 (length_log value) (λ log. (log ≤ 2) × Encodes log value)
+    (λ e. (omega arith, ltb-true value (2 ^ 6) e)) (λ e. length_encodes value lt)
+
 -- an integer in a datagram is read back
-module _ (d xs ys : List ℕ) (log value at : ℕ) (is : d ≡ xs ++ (integer log value ++ ys)) (from : at ≡ length xs) (few : log ≤ 2)
-    (fits : Encodes log value) where
+module _ (d xs ys : List ℕ) (log value at : ℕ) (is : d ≡ xs ++ (integer log value ++ ys)) (from : at ≡ length xs)
+    (encodes : (log ≤ 2) × Encodes log value) where
   its_length : length (integer log value) ≡ 2 ^ log
   its_length = length-high_first (2 ^ log) (log * 2 ^ (8 * 2 ^ log - 2) + value)
 
@@ -80,31 +77,32 @@ module _ (d xs ys : List ℕ) (log value at : ℕ) (is : d ≡ xs ++ (integer lo
       ∙ get_or-append-add xs (integer log value ++ ys) 0 0
       ∙ get_or_append_left (integer log value) ys 0 0 some
 
-  its_end : varint_end d at ≡ at + 2 ^ log
-  its_end = ap (λ b. at + 2 ^ (b / 2 ^ 6)) first ∙ ap (λ l. at + 2 ^ l) (first_byte log value few fits)
+  its_end : varint_end d at ≡ length (xs ++ integer log value)
+  its_end =
+      ap (λ b. at + 2 ^ (b / 2 ^ 6)) first ∙ ap (λ l. at + 2 ^ l) (first_byte log value encodes.0 encodes.1)
+      ∙ omega (arith, from, its_length, length-append xs (integer log value))
 
   its_value : varint d at ≡ value
   its_value =
+      let end = length (xs ++ integer log value) in
+      let long : end ≡ at + length (integer log value) = length-append xs (integer log value) ∙ omega (arith, from) in
       ap (λ end. number_from_digits 256 (slice_range d at end) % 2 ^ (8 * (end - at) - 2)) its_end
       ∙ ap₂ (λ l n. number_from_digits 256 l % 2 ^ (8 * n - 2))
-      (ap (λ l. slice_range l at (at + 2 ^ log)) is
-      ∙ range xs (integer log value) ys at (at + 2 ^ log) from (ap (λ n. at + n) (sym its_length))) (omega arith)
-      ∙ value_of log value few fits
+      (ap (λ l. slice_range l at end) is ∙ range xs (integer log value) ys at end from long) (omega (arith, long, its_length))
+      ∙ value_of log value encodes.0 encodes.1
 
--- the parts of a packet with a long header of these fields
-record HasParts (number : ℕ) (datagram : List ℕ) (packet : Packet) (kind : PacketType) (id source text : List ℕ) (at to : ℕ) : Type 0 where
-  start : packet.start ≡ 0
-  packet_type : packet.packet_type ≡ kind
-  version : packet.version ≡ Some number
-  destination_id : slice_range datagram packet.destination_id.start packet.destination_id.end ≡ id
-  source_id : slice_range datagram packet.source_id.start packet.source_id.end ≡ source
-  token : slice_range datagram packet.token.start packet.token.end ≡ text
-  number_at : packet.number_at ≡ Some at
-  end : packet.end ≡ to
-
+-- a packet with a long header of these fields is parsed, and has these parts
 abbrev IsParsed : (number id_len : ℕ) (datagram : List ℕ) (kind : PacketType) (id source text : List ℕ) (at to : ℕ) → Type 0
-IsParsed number id_len datagram kind id source text at to =
-    (p : Packet) × (parts_of id_len datagram 0 ≡ Ok p) × HasParts number datagram p kind id source text at to
+IsParsed number id_len datagram kind id source text at to = (p : Packet) × (parts_of id_len datagram 0 ≡ Ok p) × record {
+  start : p.start ≡ 0;
+  packet_type : p.packet_type ≡ kind;
+  version : p.version ≡ Some number;
+  destination_id : slice_range datagram p.destination_id.start p.destination_id.end ≡ id;
+  source_id : slice_range datagram p.source_id.start p.source_id.end ≡ source;
+  token : slice_range datagram p.token.start p.token.end ≡ text;
+  number_at : p.number_at ≡ Some at;
+  end : p.end ≡ to;
+}
 
 -- these four bytes are the version
 abbrev number_of : (a b c d : ℕ) → ℕ
@@ -117,7 +115,7 @@ record IsVersion (version : Version) (a b c d : ℕ) : Type 0 where
 -- a long header with its fields, and what follows it
 module _ (version : Version) (a b c d : ℕ) (is_version : IsVersion version a b c d) (first : ℕ) (id source token : List ℕ)
     (log n : ℕ) (rest : List ℕ) (long : 0x80 ≤ first) (short_id : length id ≤ 20) (short_source : length source ≤ 20)
-    (few : log ≤ 2) (fits : Encodes log n) (whole_packet : n ≤ length rest) where
+    (encodes : (log ≤ 2) × Encodes log n) (whole_packet : n ≤ length rest) where
   abbrev with_id : List ℕ
   with_id = (first ∷ a ∷ b ∷ c ∷ d ∷ []) ++ id_field id
 
@@ -152,28 +150,18 @@ module _ (version : Version) (a b c d : ℕ) (is_version : IsVersion version a b
       ap (λ v. 6 + length id + 1 + v) source_len ∙ omega (arith, length-append with_id (id_field source))
 
   short_ids : has_long_id datagram 0 ≡ false
-  short_ids =
-      ap (λ v. nat_lt (if is_some v then 20 else 255) (length id) || nat_lt (if is_some v then 20 else 255) (get_or datagram (6 + length id) 0))
-      is_version.known
-      ∙ ap₂ (λ a b. a || b) (le-ltb 20 (length id) short_id) (ap (nat_lt 20) source_len ∙ le-ltb 20 (length source) short_source)
+  short_ids = rw (is_version.known, source_len, le-ltb 20 (length id) short_id, le-ltb 20 (length source) short_source) refl
 
   typed : (kind : PacketType) → type_of version (bits_of first) ≡ kind → versioned_layout datagram 0 ≡ typed_layout kind datagram 0
-  typed kind is =
-      ap₂ (λ none v. if none then opaque_layout datagram 0 VersionNegotiation else known_layout v datagram 0) is_version.some is_version.known
-      ∙ ap (λ k. typed_layout k datagram 0) is
+  typed kind is = rw (is_version.some, is_version.known, is) refl
 
   module _ (kind : PacketType) (place : Range ℕ) (text : List ℕ) (layout : versioned_layout datagram 0 ≡ numbered_layout datagram 0 kind place)
       (ends : place.end ≡ length with_token) (bytes : slice_range datagram place.start place.end ≡ text) where
     number_is : varint_end datagram place.end ≡ length header
-    number_is =
-        its_end datagram with_token rest log n place.end after_token ends few fits
-        ∙ omega (arith, ends, length-append with_token (integer log n), length-high_first (2 ^ log) (log * 2 ^ (8 * 2 ^ log - 2) + n))
-
-    length_is : varint datagram place.end ≡ n
-    length_is = its_value datagram with_token rest log n place.end after_token ends few fits
+    number_is = its_end datagram with_token rest log n place.end after_token ends encodes
 
     end_is : varint_end datagram place.end + varint datagram place.end ≡ length header + n
-    end_is = ap₂ (λ a b. a + b) number_is length_is
+    end_is = ap₂ (λ a b. a + b) number_is (its_value datagram with_token rest log n place.end after_token ends encodes)
 
     inside : nat_lt (length datagram) (varint_end datagram place.end + varint datagram place.end) ≡ false
     inside = le-ltb _ _ (omega (arith, end_is, length-append header rest, whole_packet))
@@ -182,48 +170,40 @@ module _ (version : Version) (a b c d : ℕ) (is_version : IsVersion version a b
     packet = numbered_layout datagram 0 kind place
 
     parsed : (id_len : ℕ) → parts_of id_len datagram 0 ≡ Ok packet
-    parsed id_len =
-        ap (λ b. if b then whole datagram (short_layout id_len datagram 0) else long_packet datagram 0) (le-ltb first 0x80 long)
-        ∙ ap (λ b. if b then Err IdTooLong else whole datagram (versioned_layout datagram 0)) short_ids
-        ∙ ap (whole datagram) layout ∙ ap (λ b. if b then Err Cut else Ok packet) inside
+    parsed id_len = rw (le-ltb first 0x80 long, short_ids, layout, inside) refl
 
-    parts : HasParts (number_of a b c d) datagram packet kind id source text (length header) (length header + n)
-    parts = record {
-      start = refl;
-      packet_type = refl;
-      version = refl;
-      destination_id =
-          ap (λ l. slice_range l 6 (6 + length id)) after_id
-          ∙ range (first ∷ a ∷ b ∷ c ∷ d ∷ length id ∷ []) id _ 6 (6 + length id) refl refl;
-      source_id =
-          ap₂ (λ l e. slice_range l (6 + length id + 1) e)
-          (after_id ∙ sym (append_assoc with_id (length source ∷ []) (source ++ (token ++ (integer log n ++ rest))))) its_source_end
-          ∙ range (with_id ++ length source ∷ []) source _ (6 + length id + 1) (length with_source)
-          (omega (arith, length-append with_id (length source ∷ []))) (omega (arith, length-append with_id (id_field source)));
-      token = bytes;
-      number_at = ap (λ v. Some v) number_is;
-      end = end_is;
-    }
-
-    is_parsed : (id_len : ℕ) → IsParsed (number_of a b c d) id_len datagram kind id source text (length header) (length header + n)
-    is_parsed id_len = (packet, parsed id_len, parts)
+    is_parsed : (id_len : ℕ)
+        → IsParsed (number_of a b c d) id_len datagram kind id source text (length header) (length header + n)
+    is_parsed id_len = (
+      packet,
+      parsed id_len,
+      record {
+        start = refl;
+        packet_type = refl;
+        version = refl;
+        destination_id =
+            ap (λ l. slice_range l 6 (6 + length id)) after_id
+            ∙ range (first ∷ a ∷ b ∷ c ∷ d ∷ length id ∷ []) id _ 6 (6 + length id) refl refl;
+        source_id =
+            ap₂ (λ l e. slice_range l (6 + length id + 1) e)
+            (after_id ∙ sym (append_assoc with_id (length source ∷ []) (source ++ (token ++ (integer log n ++ rest)))))
+            its_source_end
+            ∙ range (with_id ++ length source ∷ []) source _ (6 + length id + 1) (length with_source)
+            (omega (arith, length-append with_id (length source ∷ []))) (omega (arith, length-append with_id (id_field source)));
+        token = bytes;
+        number_at = ap (λ v. Some v) number_is;
+        end = end_is;
+      },
+    )
 
   -- a type without a token
   plain : (kind : PacketType) (id_len : ℕ) → token ≡ [] → (let none = span (source_end datagram 0) (source_end datagram 0) in
-      versioned_layout datagram 0 ≡ numbered_layout datagram 0 kind none)
+      typed_layout kind datagram 0 ≡ numbered_layout datagram 0 kind none) → type_of version (bits_of first) ≡ kind
       → IsParsed (number_of a b c d) id_len datagram kind id source [] (length header) (length header + n)
-  plain kind id_len none layout =
+  plain kind id_len none layout is =
       let from = source_end datagram 0 in
       let ends : from ≡ length with_token = its_source_end ∙ sym (ap length (ap (λ t. with_source ++ t) none ∙ append-nil with_source)) in
-      is_parsed kind (span from from) [] layout ends (empty from datagram) id_len
-
-  zero_rtt : (id_len : ℕ) → token ≡ [] → type_of version (bits_of first) ≡ ZeroRttPacket
-      → IsParsed (number_of a b c d) id_len datagram ZeroRttPacket id source [] (length header) (length header + n)
-  zero_rtt id_len none is = plain ZeroRttPacket id_len none (typed ZeroRttPacket is)
-
-  handshake : (id_len : ℕ) → token ≡ [] → type_of version (bits_of first) ≡ HandshakePacket
-      → IsParsed (number_of a b c d) id_len datagram HandshakePacket id source [] (length header) (length header + n)
-  handshake id_len none is = plain HandshakePacket id_len none (typed HandshakePacket is)
+      is_parsed kind (span from from) [] (typed kind is ∙ layout) ends (empty from datagram) id_len
 
   module _ (text : List ℕ) (is : token ≡ integer (fewest (length text)) (length text) ++ text) (short : length text < 2 ^ 30) where
     abbrev text_log : ℕ
@@ -237,42 +217,36 @@ module _ (version : Version) (a b c d : ℕ) (is_version : IsVersion version a b
         after_source ∙ ap (λ l. with_source ++ (l ++ (integer log n ++ rest))) is
         ∙ ap (λ l. with_source ++ l) (append_assoc (integer text_log (length text)) text (integer log n ++ rest))
 
-    text_at : varint_end datagram from ≡ from + 2 ^ text_log
-    text_at =
-        let encodes = fewest_encodes (length text) short in
-        its_end datagram with_source (text ++ (integer log n ++ rest)) text_log (length text) from at_token its_source_end encodes.0 encodes.1
+    begins : varint_end datagram from ≡ length (with_source ++ integer text_log (length text))
+    begins =
+        its_end datagram with_source (text ++ (integer log n ++ rest)) text_log (length text) from at_token its_source_end
+        (fewest_encodes (length text) short)
 
     text_len : varint datagram from ≡ length text
     text_len =
-        let encodes = fewest_encodes (length text) short in
-        its_value datagram with_source (text ++ (integer log n ++ rest)) text_log (length text) from at_token its_source_end encodes.0 encodes.1
+        its_value datagram with_source (text ++ (integer log n ++ rest)) text_log (length text) from at_token its_source_end
+        (fewest_encodes (length text) short)
 
-    integer_len : length (integer text_log (length text)) ≡ 2 ^ text_log
-    integer_len = length-high_first (2 ^ text_log) (text_log * 2 ^ (8 * 2 ^ text_log - 2) + length text)
+    abbrev place : Range ℕ
+    place = initial_token datagram 0
 
-    begins : varint_end datagram from ≡ length (with_source ++ integer text_log (length text))
-    begins = text_at ∙ omega (arith, its_source_end, integer_len, length-append with_source (integer text_log (length text)))
-
-    ends : varint_end datagram from + varint datagram from ≡ length with_token
+    ends : place.end ≡ length with_token
     ends =
         ap₂ (λ a b. a + b) begins text_len ∙ sym (length-append (with_source ++ integer text_log (length text)) text)
         ∙ ap length (append_assoc with_source (integer text_log (length text)) text ∙ ap (λ l. with_source ++ l) (sym is))
 
-    bytes : slice_range datagram (varint_end datagram from) (varint_end datagram from + varint datagram from) ≡ text
+    bytes : slice_range datagram place.start place.end ≡ text
     bytes =
-        ap (λ l. slice_range l (varint_end datagram from) (varint_end datagram from + varint datagram from))
+        ap (λ l. slice_range l place.start place.end)
         (at_token ∙ sym (append_assoc with_source (integer text_log (length text)) (text ++ (integer log n ++ rest))))
-        ∙ range (with_source ++ integer text_log (length text)) text (integer log n ++ rest) (varint_end datagram from)
-        (varint_end datagram from + varint datagram from) begins (ap (λ v. varint_end datagram from + v) text_len)
+        ∙ range (with_source ++ integer text_log (length text)) text (integer log n ++ rest) place.start place.end begins
+        (ap (λ v. place.start + v) text_len)
 
     initial : (id_len : ℕ) → type_of version (bits_of first) ≡ InitialPacket
         → IsParsed (number_of a b c d) id_len datagram InitialPacket id source text (length header) (length header + n)
-    initial id_len type_is = is_parsed InitialPacket (initial_token datagram 0) text (typed InitialPacket type_is) ends bytes id_len
+    initial id_len type_is = is_parsed InitialPacket place text (typed InitialPacket type_is) ends bytes id_len
 
 -- the type bits of a first byte
-first_bits : (bits m : ℕ) → bits < 4 → IsNumberLen m → bits_of (long_first_byte bits m) ≡ bits
-first_bits bits m few is = omega (arith, is.some, is.few)
-
 header_few : (version : Version) (kind : LongType) → header_bits version kind < 4
 header_few One (Initial token) = omega arith
 header_few Two (Initial token) = omega arith
@@ -286,99 +260,75 @@ type_back version kind = refl
 type_is : (version : Version) (kind : LongType) (m : ℕ) → IsNumberLen m
     → type_of version (bits_of (long_first_byte (header_bits version kind) m)) ≡ packet_type_of kind
 type_is version kind m is =
-    ap (type_of version) (first_bits (header_bits version kind) m (header_few version kind) is) ∙ type_back version kind
+    ap (type_of version) (omega (arith, is.some, is.few, header_few version kind)) ∙ type_back version kind
 
--- a long header of each type
+-- a long header of each type, with this version in these bytes
+abbrev IsParsedOf : (version : Version) (number : ℕ) (bytes : List ℕ) → Type 0
+IsParsedOf version number bytes = (kind : LongType) (id source : List ℕ) (m n : ℕ) (rest : List ℕ) → IsNumberLen m
+    → length id ≤ 20 → length source ≤ 20 → length (token_of kind) < 2 ^ 30 → n < 2 ^ 30 → n ≤ length rest → (id_len : ℕ)
+    → (let header = (long_first_byte (header_bits version kind) m ∷ bytes) ++ id_field id ++ id_field source ++ token_field kind
+    ++ integer (length_log n) n in
+    IsParsed number id_len (header ++ rest) (packet_type_of kind) id source (token_of kind) (length header) (length header + n))
+
 module _ (version : Version) (a b c d : ℕ) (is_version : IsVersion version a b c d) where
-  by_type : (kind : LongType) (id source : List ℕ) (m n : ℕ) (rest : List ℕ) → IsNumberLen m → length id ≤ 20 → length source ≤ 20
-      → length (token_of kind) < 2 ^ 30 → n < 2 ^ 30 → n ≤ length rest → (id_len : ℕ)
-      → (let header = (long_first_byte (header_bits version kind) m ∷ a ∷ b ∷ c ∷ d ∷ []) ++ id_field id ++ id_field source
-      ++ token_field kind ++ integer (length_log n) n in
-      IsParsed (number_of a b c d) id_len (header ++ rest) (packet_type_of kind) id source (token_of kind) (length header) (length header + n))
+  by_type : IsParsedOf version (number_of a b c d) (a ∷ b ∷ c ∷ d ∷ [])
   by_type (Initial token) id source m n rest is short_id short_source short_token short_len whole id_len =
-      let encodes = length_encodes n short_len in
       initial version a b c d is_version (long_first_byte (header_bits version (Initial token)) m) id source (token_field (Initial token))
-      (length_log n) n rest (omega arith) short_id short_source encodes.0 encodes.1 whole token.now refl short_token id_len
-      (type_is version (Initial token) m is)
+      (length_log n) n rest (omega arith) short_id short_source (length_encodes n short_len) whole token.now refl short_token
+      id_len (type_is version (Initial token) m is)
   by_type ZeroRtt id source m n rest is short_id short_source short_token short_len whole id_len =
-      let encodes = length_encodes n short_len in
-      zero_rtt version a b c d is_version (long_first_byte (header_bits version ZeroRtt) m) id source [] (length_log n) n rest (omega arith)
-      short_id short_source encodes.0 encodes.1 whole id_len refl (type_is version ZeroRtt m is)
+      plain version a b c d is_version (long_first_byte (header_bits version ZeroRtt) m) id source [] (length_log n) n rest
+      (omega arith) short_id short_source (length_encodes n short_len) whole ZeroRttPacket id_len refl refl
+      (type_is version ZeroRtt m is)
   by_type Handshake id source m n rest is short_id short_source short_token short_len whole id_len =
-      let encodes = length_encodes n short_len in
-      handshake version a b c d is_version (long_first_byte (header_bits version Handshake) m) id source [] (length_log n) n rest (omega arith)
-      short_id short_source encodes.0 encodes.1 whole id_len refl (type_is version Handshake m is)
+      plain version a b c d is_version (long_first_byte (header_bits version Handshake) m) id source [] (length_log n) n rest
+      (omega arith) short_id short_source (length_encodes n short_len) whole HandshakePacket id_len refl refl
+      (type_is version Handshake m is)
 
-by_version : (version : Version) (kind : LongType) (id source : List ℕ) (m n : ℕ) (rest : List ℕ) → IsNumberLen m → length id ≤ 20
-    → length source ≤ 20 → length (token_of kind) < 2 ^ 30 → n < 2 ^ 30 → n ≤ length rest → (id_len : ℕ)
-    → (let header = (long_first_byte (header_bits version kind) m ∷ version_field version) ++ id_field id ++ id_field source
-    ++ token_field kind ++ integer (length_log n) n in
-    IsParsed (version_number version) id_len (header ++ rest) (packet_type_of kind) id source (token_of kind) (length header) (length header + n))
+by_version : (version : Version) → IsParsedOf version (version_number version) (version_field version)
 by_version One = by_type One 0 0 0 1 (record { some = refl; known = refl })
 by_version Two = by_type Two 0x6b 0x33 0x43 0xcf (record { some = refl; known = refl })
 
 -- the fixed bit
 with_bit : (fixed_bit : FixedBit) (version : Option ℕ) (byte : ℕ) → byte / 2 ^ 6 % 2 ≡ 1 → lacks_fixed_bit fixed_bit version byte ≡ false
 with_bit Required None byte is = ap (λ b. b == 0) is
-with_bit Required (Some version) byte is =
-    ap (λ b. is_some (numbered_version version) && (b == 0)) is ∙ and-false (is_some (numbered_version version))
+with_bit Required (Some version) byte is = rw is (and-false (is_some (numbered_version version)))
 with_bit Greased version byte is = refl
 
-first_bit : (bits m : ℕ) → bits < 4 → IsNumberLen m → long_first_byte bits m / 2 ^ 6 % 2 ≡ 1
-first_bit bits m few is = omega (arith, is.some, is.few)
-
-long_first : (header : LongHeader) → IsNumberLen header.number_len
-    → long_first_byte (header_bits header.version header.packet_type) header.number_len / 2 ^ 6 % 2 ≡ 1
-long_first header is =
-    first_bit (header_bits header.version header.packet_type) header.number_len (header_few header.version header.packet_type) is
-
-short_first : (phase : Bool) (m : ℕ) → IsNumberLen m → short_first_byte phase m / 2 ^ 6 % 2 ≡ 1
-short_first true m is = omega (arith, is.some, is.few)
-short_first false m is = omega (arith, is.some, is.few)
+short_bits : (phase : Bool) (m : ℕ) → IsNumberLen m
+    → (short_first_byte phase m < 0x80) × (short_first_byte phase m / 2 ^ 6 % 2 ≡ 1)
+short_bits true m is = omega (arith, is.some, is.few)
+short_bits false m is = omega (arith, is.some, is.few)
 
 pub long_parsed : (header : LongHeader) → IsLongHeader header → (rest : List ℕ) → length_of header ≤ length rest
     → (fixed_bit : FixedBit) (id_len : ℕ) → (p : Packet) × (packet_of fixed_bit id_len (long_header header ++ rest) 0 ≡ Ok p)
     × HasLongParts header (long_header header ++ rest) p
 long_parsed header is rest whole fixed_bit id_len =
+    let first : ℕ = long_first_byte (header_bits header.version header.packet_type) header.number_len in
+    let bit : first / 2 ^ 6 % 2 ≡ 1 =
+    omega (arith, is.number.some, is.number.few, header_few header.version header.packet_type) in
     let found =
     by_version header.version header.packet_type header.destination_id.now header.source_id.now header.number_len (length_of header) rest is.number
     is.ids.destination is.ids.source is.fields.token is.fields.payload whole id_len in (
       found.0,
-      ap (with_fixed_bit fixed_bit _) found.1
-          ∙ ap (λ b. if b then Err (NoFixedBit found.0.end) else Ok found.0) (with_bit fixed_bit found.0.version
-          (long_first_byte (header_bits header.version header.packet_type) header.number_len) (long_first header is.number)),
-      record {
-        start = found.2.start;
-        packet_type = found.2.packet_type;
-        version = found.2.version;
-        destination_id = found.2.destination_id;
-        source_id = found.2.source_id;
-        token = found.2.token;
-        number_at = found.2.number_at;
-        end = found.2.end;
-      },
+      rw (found.1, with_bit fixed_bit found.0.version first bit) refl,
+      assumption found.2,
     )
-
-short_form : (phase : Bool) (m : ℕ) → m ≤ 4 → short_first_byte phase m < 0x80
-short_form true m few = omega arith
-short_form false m few = omega arith
 
 pub short_parsed : (header : ShortHeader) → IsShortHeader header → (rest : List ℕ) → (fixed_bit : FixedBit)
     → (p : Packet) × (packet_of fixed_bit (length header.destination_id.now) (short_header header ++ rest) 0 ≡ Ok p)
     × HasShortParts header (short_header header ++ rest) p
 short_parsed header is rest fixed_bit =
     let id : List ℕ = header.destination_id.now in
-    let first : ℕ = short_first_byte header.phase header.number_len in
     let d : List ℕ = short_header header ++ rest in
     let p : Packet = short_layout (length id) d 0 in
+    let first : ℕ = short_first_byte header.phase header.number_len in
+    let bits = short_bits header.phase header.number_len is.number in
     let len : length d ≡ 1 + length id + length rest = ap suc (length-append id rest) ∙ omega arith in
     let end : p.end ≡ length d = omega (arith, len) in
     let at : 0 + 1 + length id ≡ length (first ∷ id) = omega arith in (
       p,
-      ap (λ b. with_fixed_bit fixed_bit first (if b then whole d p else long_packet d 0))
-          (lt-ltb first 0x80 (short_form header.phase header.number_len is.number.few))
-          ∙ ap (λ b. with_fixed_bit fixed_bit first (if b then Err Cut else Ok p)) (le-ltb (length d) p.end (omega (arith, end)))
-          ∙ ap (λ b. if b then Err (NoFixedBit p.end) else Ok p) (with_bit fixed_bit None first (short_first header.phase header.number_len is.number)),
+      rw (lt-ltb first 0x80 bits.0, le-ltb (length d) p.end (omega (arith, end)), with_bit fixed_bit None first bits.1) refl,
       record {
         start = refl;
         packet_type = refl;
