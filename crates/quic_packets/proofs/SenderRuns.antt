@@ -1,35 +1,24 @@
 -- What a sender seals under over every run: numbers that rise, and under each key at most as many as its limit.
 use Rattle.std.proofs.Common.{ℕ, zero, suc, ◌+◌, ◌-◌, ◌<◌, ◌≤◌, min, List, [], ◌∷◌, length, get_or, arith}
+use Rattle.std.proofs.lemmas.List.Elements.{All-cons}
+use Rattle.std.proofs.lemmas.List.Kept.{AllPairs-cons}
 use Rattle.std.specs.Prelude.{All, AllPairs, flat_map, true}
 use Rattle.quic_packets.specs.Sending.{Runs, Sender, after_acknowledgement, after_send, after_skip, after_update, confirms, goes_on, hears, lowers, none, sends, skips, updates, with_installed_keys}
-
--- numbers that rise, from one on
-abbrev Rising : ℕ → List ℕ → Type 0
-Rising from [] = Unit {0}
-Rising from (n ∷ ns) = (from ≤ n) × Rising (n + 1) ns
-
-weaker : (a b : ℕ) (ns : List ℕ) → a ≤ b → Rising b ns → Rising a ns
-weaker a b [] le h = tt
-weaker a b (n ∷ ns) le h = (omega (arith, h.0), h.1)
-
-at_least : (a : ℕ) (ns : List ℕ) (j d : ℕ) → Rising a ns → j < length ns → a ≤ get_or ns j d
-at_least a [] j d h lt = absurd (omega arith)
-at_least a (n ∷ ns) zero d h lt = h.0
-at_least a (n ∷ ns) (suc j) d h lt = omega (arith, h.0, at_least (n + 1) ns j d h.1 (omega arith))
-
-in_order : (a : ℕ) (ns : List ℕ) (i j d : ℕ) → Rising a ns → i < j → j < length ns → get_or ns i d < get_or ns j d
-in_order a [] i j d h lt within = absurd (omega arith)
-in_order a (n ∷ ns) i zero d h lt within = absurd (omega arith)
-in_order a (n ∷ ns) zero (suc j) d h lt within = omega (arith, at_least (n + 1) ns j d h.1 (omega arith))
-in_order a (n ∷ ns) (suc i) (suc j) d h lt within = in_order (n + 1) ns i j d h.1 (omega arith) (omega arith)
 
 abbrev all_of : List (List ℕ) → List ℕ
 all_of = flat_map (λ ns. ns)
 
-rises : (s t : Sender) (by_key : List (List ℕ)) → Runs s t by_key → Rising s.next (all_of by_key)
-rises s t by_key (none x) = tt
-rises s t by_key (sends x y ns later may rest) = (omega arith, rises (after_send x) y (ns ∷ later) rest)
-rises s t by_key (skips x y ks n le rest) = weaker x.next n (all_of ks) le (rises (after_skip x n) y ks rest)
+-- no number is below the next one, and each is below all later ones
+rises : (s t : Sender) (by_key : List (List ℕ)) → Runs s t by_key
+    → All (λ n. s.next ≤ n) (all_of by_key) × AllPairs (λ m n. m < n) (all_of by_key)
+rises s t by_key (none x) = (λ i d lt. absurd (omega arith), λ i j d lt within. absurd (omega arith))
+rises s t by_key (sends x y ns later may rest) =
+    let after = rises (after_send x) y (ns ∷ later) rest in (
+      All-cons (λ n. x.next ≤ n) x.next (all_of (ns ∷ later)) (omega arith) (λ i d lt. omega (arith, after.0 i d lt)),
+      AllPairs-cons (λ m n. m < n) x.next (all_of (ns ∷ later)) (λ i d lt. omega (arith, after.0 i d lt)) after.1,
+    )
+rises s t by_key (skips x y ks n le rest) =
+    let after = rises (after_skip x n) y ks rest in (λ i d lt. omega (arith, le, after.0 i d lt), after.1)
 rises s t by_key (hears x y ks n below rest) = rises (after_acknowledgement x n) y ks rest
 rises s t by_key (confirms x y ks rest) = rises (record x { confirmed = true }) y ks rest
 rises s t by_key (lowers x y ks limit rest) = rises (record x { limit = min x.limit limit }) y ks rest
@@ -37,7 +26,7 @@ rises s t by_key (updates x y ks key secret rest) = rises (after_update x key se
 rises s t by_key (goes_on x y ks version key hk secret rest) = rises (with_installed_keys x version key hk secret) y ks rest
 
 pub fresh : (s t : Sender) (by_key : List (List ℕ)) → Runs s t by_key → AllPairs (λ m n. m < n) (all_of by_key)
-fresh s t by_key run = λ i j d lt within. in_order s.next (all_of by_key) i j d (rises s t by_key run) lt within
+fresh s t by_key run = (rises s t by_key run).1
 
 -- the first list has at most so many numbers, and each later one at most as many as the limit
 abbrev Capped : ℕ → ℕ → List (List ℕ) → Type 0
