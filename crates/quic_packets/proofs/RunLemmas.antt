@@ -64,7 +64,7 @@ pub record Takes (life : Life) (r : Receiver) (first number : ℕ) : Type 0 wher
   pub key : key_of r first number ≡ Some (key_after life.key life.updates (updates_before life.updates number))
   pub later : highest_before r first number ≤ number
 
--- a packet that was sent, which a receiver holds the key of: the current one, the next one or the previous one
+-- a packet that was sent, and whose key a receiver holds: it is the current, the next or the previous one
 module _ (sender : Sender) (life : Life) (sent : List Sent) (run : HasSent sender life sent) (r : Receiver) (own : ℕ) (p : Sent)
     (has : Contains sent p) (s : Stands life r own) where
   abbrev first : ℕ

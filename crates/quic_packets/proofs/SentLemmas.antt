@@ -78,7 +78,7 @@ pub record WasSent (header : HeaderKey) (key : PacketKey) (bit : Bool) (p : Sent
   pub payload : p.header_len + 16 < length p.packet
   pub sealed : Protected header p.number_at (sealed_packet key.bytes (xored_nonce key.iv p.number) p.header_len p.packet) p.wire
 
--- a packet that was sent under the key that its number has
+-- a packet that was sent under the key after the updates before its number
 abbrev pub WasSentIn : HeaderKey → Life → Sent → Type 0
 WasSentIn header life p =
     let count = updates_before life.updates p.number in

@@ -53,7 +53,7 @@ value_of (suc zero) value few fits = ap (λ n. n % 2 ^ 14) (bytes_read 2 (1 * 2 
 value_of (suc (suc zero)) value few fits = ap (λ n. n % 2 ^ 30) (bytes_read 4 (2 * 2 ^ 30 + value) 0) ∙ omega arith
 value_of (suc (suc (suc n))) value few fits = absurd (omega arith)
 
--- those of a Length field, and the fewest bytes
+-- the bytes of a Length field encode its value, and so do the fewest bytes
 length_encodes : (value : ℕ) → value < 2 ^ 30 → (length_log value ≤ 2) × Encodes (length_log value) value
 length_encodes value lt =
     cond_both (nat_lt value (2 ^ 14)) 1 2 (λ log. (log ≤ 2) × Encodes log value)
