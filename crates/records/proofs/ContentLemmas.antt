@@ -4,7 +4,7 @@ use Rattle.std.specs.List.{concat, range_with_len}
 use Rattle.std.specs.Int.{div_ceil}
 use Rattle.std.proofs.lemmas.Grind.{div_ceil_times}
 use Rattle.std.proofs.lemmas.Nat.{mul-le, row_fits}
-use Rattle.std.proofs.lemmas.List.{length-take, map-append, take_all, take_min, take_rest}
+use Rattle.std.proofs.lemmas.List.{length-take, map-append, take_all}
 use Rattle.std.proofs.lemmas.List.FromFn.{length-map-range_with_len, map-range_with_len_more}
 use Rattle.std.proofs.lemmas.List.Folds.{concat-append}
 use Rattle.std.proofs.Math.Seq.{drop-append-add, take-add}
@@ -16,7 +16,7 @@ use specs.Keys.{KeyState, ReaderState, WriterState}
 use specs.Record.{Inner, IsAllowed, header, inner_plaintext, record_at, type_code}
 use specs.Runs.{Answer, Event, Follows, ReadStep, WriteStep, WriterRuns, as_asked, carries, ends, seals}
 use specs.declared.content_type.ContentType.{ContentType}
-use specs.declared.content_type.ContentType.TheVariants.{Alert, ApplicationData, Handshake}
+use specs.declared.content_type.ContentType.TheVariants.{Alert}
 use Rattle.records.proofs.InnerLemmas.{length-plaintext}
 use Rattle.records.proofs.RunLemmas.{reading_undoes_writing}
 
@@ -80,11 +80,6 @@ module _ (key : KeyState) (number : ℕ) (content_type : ContentType) (room padd
 
 -- ---- where the pieces are
 
--- a piece as it is cut off what is left
-pub piece_is : (room : ℕ) (content : List ℕ) (i n : ℕ) → n ≡ min room (length (take (length content - i * room) (drop (i * room) content)))
-    → take n (take (length content - i * room) (drop (i * room) content)) ≡ take room (drop (i * room) content)
-piece_is room content i n e = rw (e, take_rest content (i * room)) (take_min room (drop (i * room) content))
-
 pub length-piece : (room : ℕ) (content : List ℕ) (i : ℕ) → length (take room (drop (i * room) content)) ≡ min room (length content - i * room)
 length-piece room content i = length-take room (drop (i * room) content) ∙ ap (min room) (length-drop (i * room) content)
 
@@ -137,20 +132,11 @@ module _ (size_limit padding : ℕ) (content : List ℕ) (i : ℕ) where
         alert = λ _. omega arith;
         fits = omega arith;
       }
-  allowed_piece Handshake a lt =
+  allowed_piece content_type a lt =
       let fits = a.fits in
-      let some : length content ≢ 0 = λ e. (let wrong = a.nonempty (omega arith) in cc) in
-      let here = (starts most (length content) i (λ _. omega arith) lt).1 (omega arith) in
+      let here = (starts most (length content) i (λ some. omega arith) lt).1 in
       let same = length-piece most content i in
-      record {
-        nonempty = λ e. absurd (omega arith);
-        alert = λ wrong. cc;
-        fits = omega arith;
-      }
-  allowed_piece ApplicationData a lt =
-      let fits = a.fits in
-      let same = length-piece most content i in
-      record { nonempty = λ _. refl; alert = λ wrong. cc; fits = omega arith }
+      record { nonempty = λ none. a.nonempty (grind (arith, here)); alert = λ wrong. cc; fits = omega arith }
 
 -- the length of the first i records, of which each has q bytes beside its piece
 abbrev pub first_len : (room n q i : ℕ) → ℕ
@@ -158,9 +144,6 @@ first_len room n q i = min (i * room) n + i * q
 
 pub one_longer : (room n q i len : ℕ) → len ≡ min room (n - i * room) → first_len room n q (i + 1) ≡ first_len room n q i + len + q
 one_longer room n q i len is = omega (arith, is, add-mul i 1 room, add-mul i 1 q)
-
-pub within_all : (room n count q i : ℕ) → i ≤ count → first_len room n q i ≤ n + count * q
-within_all room n count q i le = omega (arith, mul-le i q count q le (omega arith))
 
 -- ---- laws
 

@@ -1,6 +1,8 @@
 -- Reading undoes writing, the ends of one secret agree, and no number comes twice under a key.
-use Rattle.std.proofs.Common.{◌≡◌, ℕ, zero, suc, ◌+◌, ◌-◌, ◌<◌, ◌≤◌, min, List, [], ◌∷◌, length, get_or, false, true, map, refl, ap₂, sym, ◌∙◌, arith, rules, Option, Some, None, Ok, Err}
-use Rattle.std.specs.Prelude.{All, AllPairs}
+use Rattle.std.proofs.Common.{◌≡◌, ℕ, zero, suc, ◌+◌, ◌-◌, ◌<◌, ◌≤◌, min, List, [], ◌∷◌, length, get_or, false, true, map, refl, ap, ap₂, sym, ◌∙◌, arith, rules, Option, Some, None, Ok, Err}
+use Rattle.std.specs.Prelude.{AllPairs}
+use Rattle.std.specs.List.{range_with_len}
+use Rattle.std.proofs.lemmas.List.FromFn.{get_or-range_with_len, length-range_with_len}
 use Rattle.aead_ciphers.specs.Runs.{Runs}
 use Rattle.key_derivation.specs.Secret.{SecretState}
 use Rattle.key_derivation.specs.Tls.{next_traffic_secret}
@@ -133,59 +135,41 @@ ends_agree s asked sent received read written stands w r same =
 
 -- ---- numbers
 
--- numbers that rise, from one on
-abbrev Rising : ℕ → List ℕ → Type 0
-Rising from [] = Unit {0}
-Rising from (n ∷ ns) = (from ≤ n) × Rising (n + 1) ns
-
-at_least : (a : ℕ) (ns : List ℕ) (j d : ℕ) → Rising a ns → j < length ns → a ≤ get_or ns j d
-at_least a [] j d h lt = absurd (omega arith)
-at_least a (n ∷ ns) zero d h lt = h.0
-at_least a (n ∷ ns) (suc j) d h lt = omega (arith, h.0, at_least (n + 1) ns j d h.1 (omega arith))
-
-in_order : (a : ℕ) (ns : List ℕ) (i j d : ℕ) → Rising a ns → i < j → j < length ns → get_or ns i d < get_or ns j d
-in_order a [] i j d h lt within = absurd (omega arith)
-in_order a (n ∷ ns) i zero d h lt within = absurd (omega arith)
-in_order a (n ∷ ns) zero (suc j) d h lt within = omega (arith, at_least (n + 1) ns j d h.1 (omega arith))
-in_order a (n ∷ ns) (suc i) (suc j) d h lt within = in_order (n + 1) ns i j d h.1 (omega arith) (omega arith)
-
--- what a run seals under: from one number on under its first key, and from 0 on under each later one, below the limit
-abbrev RisingByKey : (from limit : ℕ) → List (List ℕ) → Type 0
-RisingByKey from limit [] = Unit {0}
-RisingByKey from limit (ns ∷ later) = Rising from ns × (length ns ≤ limit - from) × RisingByKey 0 limit later
-
-one_more : (from limit : ℕ) (ns : List ℕ) (later : List (List ℕ)) → from < limit → RisingByKey (from + 1) limit (ns ∷ later)
-    → RisingByKey from limit ((from ∷ ns) ∷ later)
-one_more from limit ns later lt h = ((omega arith, h.0), omega (arith, h.1), h.2)
+-- what a run seals under: under its first key consecutive numbers from one on, and under each later one from 0 on, below the limit
+abbrev CountsByKey : (from limit : ℕ) → List (List ℕ) → Type 0
+CountsByKey from limit [] = Unit {0}
+CountsByKey from limit (ns ∷ later) = (n : ℕ) × (ns ≡ range_with_len from n) × (n ≤ limit - from) × CountsByKey 0 limit later
 
 -- the same below a higher limit
-looser : (from low high : ℕ) (by_key : List (List ℕ)) → low ≤ high → RisingByKey from low by_key → RisingByKey from high by_key
+looser : (from low high : ℕ) (by_key : List (List ℕ)) → low ≤ high → CountsByKey from low by_key → CountsByKey from high by_key
 looser from low high [] le h = tt
-looser from low high (ns ∷ later) le h = (h.0, omega (arith, h.1), looser 0 low high later le h.2)
+looser from low high (ns ∷ later) le h = (h.0, h.1, omega (arith, h.2), looser 0 low high later le h.3)
 
-rise : (s t : WriterState) (by_key : List (List ℕ)) → WriterRuns s t by_key → RisingByKey s.number s.limit by_key
-rise s t by_key (ends x) = (tt, omega arith, tt)
-rise s t by_key (seals x y ns later lt rest) = one_more x.number x.limit ns later lt (rise (record x { number = x.number + 1 }) y (ns ∷ later) rest)
-rise s t by_key (resizes x y ks size_limit rest) = rise (record x { key = record x.key { size_limit = size_limit } }) y ks rest
-rise s t by_key (lowers x y ks limit rest) =
-    looser x.number (min x.limit limit) x.limit ks (omega arith) (rise (record x { limit = min x.limit limit }) y ks rest)
-rise s t by_key (rekeys x y ks key iv secret rest) =
-    (tt, omega arith, rise (record x { key = rekeyed x.key key iv; secret = secret; number = 0 }) y ks rest)
+counts : (s t : WriterState) (by_key : List (List ℕ)) → WriterRuns s t by_key → CountsByKey s.number s.limit by_key
+counts s t by_key (ends x) = (0, refl, omega arith, tt)
+counts s t by_key (seals x y ns later lt rest) =
+    let h = counts (record x { number = x.number + 1 }) y (ns ∷ later) rest in
+    (suc h.0, ap (λ xs. x.number ∷ xs) h.1, omega (arith, h.2), h.3)
+counts s t by_key (resizes x y ks size_limit rest) = counts (record x { key = record x.key { size_limit = size_limit } }) y ks rest
+counts s t by_key (lowers x y ks limit rest) =
+    looser x.number (min x.limit limit) x.limit ks (omega arith) (counts (record x { limit = min x.limit limit }) y ks rest)
+counts s t by_key (rekeys x y ks key iv secret rest) =
+    (0, refl, omega arith, counts (record x { key = rekeyed x.key key iv; secret = secret; number = 0 }) y ks rest)
 
-each_rises : (from limit : ℕ) (by_key : List (List ℕ)) (k : ℕ) (d : List ℕ) → RisingByKey from limit by_key → k < length by_key
-    → AllPairs (λ m n. m < n) (get_or by_key k d)
-each_rises from limit [] k d h lt = absurd (omega arith)
-each_rises from limit (ns ∷ later) zero d h lt = λ i j e less within. in_order from ns i j e h.0 less within
-each_rises from limit (ns ∷ later) (suc k) d h lt = each_rises 0 limit later k d h.2 (omega arith)
+in_order : (from n i j d : ℕ) → i < j → j < length (range_with_len from n)
+    → get_or (range_with_len from n) i d < get_or (range_with_len from n) j d
+in_order from n i j d lt within =
+    let size = length-range_with_len from n in
+    omega (arith, get_or-range_with_len from n i d (omega arith), get_or-range_with_len from n j d (omega arith))
 
-each_limited : (from limit : ℕ) (by_key : List (List ℕ)) (k : ℕ) (d : List ℕ) → RisingByKey from limit by_key → k < length by_key
-    → length (get_or by_key k d) ≤ limit
-each_limited from limit [] k d h lt = absurd (omega arith)
-each_limited from limit (ns ∷ later) zero d h lt = omega (arith, h.1)
-each_limited from limit (ns ∷ later) (suc k) d h lt = each_limited 0 limit later k d h.2 (omega arith)
+each_key : (from limit : ℕ) (by_key : List (List ℕ)) (k : ℕ) (d : List ℕ) → CountsByKey from limit by_key → k < length by_key
+    → AllPairs (λ m n. m < n) (get_or by_key k d) × (length (get_or by_key k d) ≤ limit)
+each_key from limit [] k d h lt = absurd (omega arith)
+each_key from limit (ns ∷ later) zero d h lt =
+    rw h.1 (λ i j e less within. in_order from h.0 i j e less within, omega (arith, h.2, length-range_with_len from h.0))
+each_key from limit (ns ∷ later) (suc k) d h lt = each_key 0 limit later k d h.3 (omega arith)
 
-pub fresh : (s t : WriterState) (by_key : List (List ℕ)) → WriterRuns s t by_key → All (λ numbers. AllPairs (λ m n. m < n) numbers) by_key
-fresh s t by_key run = λ k d lt. each_rises s.number s.limit by_key k d (rise s t by_key run) lt
-
-pub limited : (s t : WriterState) (by_key : List (List ℕ)) → WriterRuns s t by_key → All (λ numbers. length numbers ≤ s.limit) by_key
-limited s t by_key run = λ k d lt. each_limited s.number s.limit by_key k d (rise s t by_key run) lt
+-- under each key the numbers rise, and are no more than the limit
+pub fresh : (s t : WriterState) (by_key : List (List ℕ)) → WriterRuns s t by_key → (k : ℕ) (d : List ℕ) → k < length by_key
+    → AllPairs (λ m n. m < n) (get_or by_key k d) × (length (get_or by_key k d) ≤ s.limit)
+fresh s t by_key run k d lt = each_key s.number s.limit by_key k d (counts s t by_key run) lt
