@@ -1,22 +1,18 @@
 -- What one end of a connection receives and sends.
-use Rattle.std.proofs.Common.{◌≡◌, ◌≤◌, ◌+◌, ℕ, false, List, [], ◌∷◌, ◌++◌, length, take, drop, ◌-◌, ap, sym, subst, ◌∙◌, refl, arith, drop-drop, length-drop, append_assoc, inl, inr, true≢false, IsFalse, Ok, Err}
-use Rattle.std.proofs.lemmas.Bool.{cases_lt, false_from_ne_true}
-use Rattle.std.proofs.lemmas.List.{take_rest}
+use Rattle.std.proofs.Common.{◌≡◌, ◌≤◌, ◌+◌, ℕ, min, List, [], ◌∷◌, ◌++◌, length, take, drop, ◌-◌, ap, sym, subst, ◌∙◌, refl, arith, drop-drop, length-drop, append_assoc, inl, inr, Ok}
+use Rattle.std.proofs.lemmas.List.{length-take, take-take, take_rest}
 use Rattle.std.proofs.lemmas.Slice.{between-put_mid, drop-put_mid}
 use borrow.Rule.Slice.PartMut.{put_mid}
-use Rattle.std.specs.Prelude.{is_ok}
 use Rattle.std.specs.List.{concat}
-use Rattle.records.specs.Connection.{Fails, FailsToBring, LeavesRecord, Receiving, Rejects, Step}
+use Rattle.records.specs.Connection.{Fails, LeavesRecord, Receiving, Rejects, Step}
 use Rattle.records.specs.Handling.{FailsToHandle, Handled, Handles, HandlesAll, MayHandle, RefusesToHandle, RejectsData, RejectsMessages}
 use Rattle.records.specs.Handling.{Takes, after_message, one_handled}
-use Rattle.records.specs.Keys.{ReaderState}
-use Rattle.records.specs.Steps.{Reads}
+use Rattle.records.specs.Record.{body_len}
 use Rattle.records.specs.Stream.{BeginsProtected, RefusesProtected, Taken}
 use Rattle.records.specs.declared.connection.receive_error.ReceiveError.{ReceiveError}
 use Rattle.records.specs.declared.connection.receive_error.ReceiveError.TheVariants.{Message, OutOfMemory, Record, TooManyKeyUpdates}
-use Rattle.records.specs.declared.content_type.ContentType.{ContentType}
 use Rattle.records.specs.declared.record_error.RecordError.{RecordError}
-use Rattle.records.specs.declared.content_type.ContentType.TheVariants.{Alert, ApplicationData}
+use Rattle.records.specs.declared.content_type.ContentType.TheVariants.{ApplicationData}
 use Rattle.std.specs.Borrow.{Bor}
 use Rattle.std.proofs.Common.{Option, Result}
 use Rattle.tls_messages.specs.Messages.{Begins, Joining, IsExpected, IsMessage, IsPart, IsTaken, messages_of, part_of}
@@ -35,9 +31,6 @@ front_message stream message rest first same =
     ∙ ap (λ p. (message ++ concat (messages_of rest)) ++ p) same
     ∙ append_assoc message (concat (messages_of rest)) (part_of rest)
     ∙ ap (λ r. message ++ r) (sym (splits_of rest).joined)
-
-ok_is_not_err : {T E : Type 0} {value : T} {error : E} → Ok value ≡ Err error → ⊥
-ok_is_not_err same = true≢false (ap is_ok same)
 
 -- a stream without a whole message is a part of one
 pub all_part : (stream : List ℕ) → messages_of stream ≡ [] → (part_of stream ≡ stream) × IsPart stream
@@ -60,16 +53,14 @@ module _ (stage : Stage) (bound : ℕ) (part content left rest message later kep
   takes = record {
     joined = front_message (left ++ rest) message later next last;
     whole = whole;
-    expected = subst (λ n. IsExpected stage n message) same_bound (subst (λ s. IsExpected s joining.bound message) same_stage expected);
+    expected = rw (same_stage, same_bound) at expected;
     taken = taken;
   }
 
   pub handles_one : MayHandle was message → kept ≡ [] → (now : Handled) → now ≡ after_message was message
       → Handles stage bound part content first kept later now
   handles_one may none now same =
-      subst (λ h. Handles stage bound part content first kept later h) (sym same)
-      (subst (λ k. Handles stage bound part content first k later (after_message was message)) (sym none)
-      (one_handled left rest message later was handles takes may))
+      rw (none, same) (one_handled left rest message later was handles takes may)
 
   fails_to_handle : (error : ReceiveError) → RefusesToHandle was message error
       → FailsToHandle stage bound part content first error was
@@ -97,52 +88,14 @@ pub handles_all : (stage : Stage) (bound : ℕ) (part content left rest kept : L
 handles_all stage bound part content left rest kept first now joining same_stage same_bound handles none end begins =
     let all = all_part (left ++ rest) none in
     let same : kept ≡ left ++ rest = end ∙ all.0 in
-    let may : Begins stage bound (left ++ rest)
-    = subst (λ n. Begins stage n (left ++ rest)) same_bound (subst (λ s. Begins s joining.bound (left ++ rest)) same_stage begins) in
     record {
       left = left;
       rest = rest;
       handles = handles;
       joined = same;
-      is_part = subst IsPart (sym same) all.1;
-      begins = subst (Begins stage bound) (sym same) may;
+      is_part = rw same all.1;
+      begins = rw same (rw (same_stage, same_bound) at begins);
     }
-
--- a record that is read: its reader is open, and an alert has two bytes
-read_begins : (was now : ReaderState) (bytes : List ℕ) (read : ContentType × List ℕ) → Reads was now bytes (Ok read)
-    → IsFalse was.is_closed
-read_begins was now bytes read r = false_from_ne_true was.is_closed (λ closed. absurd (ok_is_not_err (r.closed closed)))
-
-pub read_open : (was now : ReaderState) (bytes : List ℕ) (read : ContentType × List ℕ) → Reads was now bytes (Ok read)
-    → IsFalse now.is_closed
-read_open was now bytes read r = ap (λ s. s.is_closed) r.counted ∙ read_begins was now bytes read r
-
-pub alert_len : (was now : ReaderState) (bytes content : List ℕ) → Reads was now bytes (Ok (Alert, content)) → length content ≡ 2
-alert_len was now bytes content r =
-    let is_open = read_begins was now bytes (Alert, content) r in
-    elim (cases_lt was.number was.limit) [
-      | inl more ↦ (r.opens is_open more).content.1.allowed.alert refl
-      | inr ended ↦ absurd (ok_is_not_err (r.ended is_open ended))
-    ]
-
--- a content that brings nothing is no rejected record
-no_record : (capacity : ℕ) (content_type : ContentType) (content : List ℕ) (was now : Receiving) (error : RecordError)
-    → FailsToBring capacity content_type content was (Record error) now → ⊥
-no_record capacity Alert content was now error fails = fails.0
-no_record capacity content_type content was now error fails = fails.0
-
-pub fails_to_bring : (capacity : ℕ) (was now : Receiving) (bytes content : List ℕ) (content_type : ContentType) (read : ReaderState)
-    (error : ReceiveError) → Reads was.reader read bytes (Ok (content_type, content))
-    → FailsToBring capacity content_type content (record was { reader = read }) error now → Fails capacity was bytes error now
-fails_to_bring capacity was now bytes content content_type read (Record error) reads fails =
-    absurd (no_record capacity content_type content (record was { reader = read }) now error fails)
-fails_to_bring capacity was now bytes content content_type read error reads fails = (content_type, content, read, reads, fails)
-
-pub leaves_content : (capacity : ℕ) (first was now : Receiving) (content old new : List ℕ) (content_type : ContentType)
-    (error : ReceiveError) → FailsToBring capacity content_type content was error now → LeavesRecord first old new error
-leaves_content capacity first was now content old new content_type (Record error) fails =
-    absurd (no_record capacity content_type content was now error fails)
-leaves_content capacity first was now content old new content_type error fails = tt
 
 -- less room is lacking all the more
 pub lacks_more : (more less : ℕ) (part before content : List ℕ) (error : ReceiveError) → less ≤ more
@@ -173,6 +126,20 @@ rejects_header capacity stream buffer first was at refusal taken same refuses = 
   taken = taken;
   front = inl (refusal, refl, subst (λ t. RefusesProtected t refusal) (rest_of stream buffer at same) refuses, refl, same);
 }
+
+-- the record that they begin with, by itself
+pub begins_alone : (buffer : List ℕ) (at len : ℕ) → BeginsProtected (take (length buffer - at) (drop at buffer)) len
+    → (take 5 (take (length buffer - at) (drop at buffer)) ≡ take 5 (take (at + len - at) (drop at buffer)))
+    × BeginsProtected (take (at + len - at) (drop at buffer)) (length (take (at + len - at) (drop at buffer)))
+begins_alone buffer at len begins =
+    let rest : List ℕ = take (length buffer - at) (drop at buffer) in
+    let first : List ℕ = take (at + len - at) (drop at buffer) in
+    let within : length rest ≡ min (length buffer - at) (length (drop at buffer)) = length-take (length buffer - at) (drop at buffer) in
+    let size : length first ≡ len = length-take (at + len - at) (drop at buffer) ∙ omega (arith, begins.2, within) in
+    let same : take 5 rest ≡ take 5 first =
+    take-take 5 (length buffer - at) (drop at buffer) (omega (arith, begins.1, begins.2, within))
+    ∙ sym (take-take 5 (at + len - at) (drop at buffer) (omega (arith, begins.1))) in
+    (same, (rw same at begins.0, size ∙ begins.1 ∙ ap (λ head. 5 + body_len head) same, omega arith, tt))
 
 pub rejects_record : (capacity more : ℕ) (stream buffer mid : List ℕ) (first was now : Receiving) (at len : ℕ) (error : ReceiveError)
     → Taken Step stream first at was → drop at buffer ≡ drop at stream → at ≤ length buffer

@@ -4,10 +4,10 @@ use Rattle.std.specs.Prelude.{IsFalse, IsOk, IsTrue, OnOk}
 use Rattle.std.specs.Borrow.{Bor}
 use Rattle.records.specs.Keys.{KeyState, ReaderState, WriterState}
 use Rattle.records.specs.Record.{Carries, Inner, IsWhole, Seals, inner_plaintext}
-use Rattle.records.specs.Refusals.{RefusesBytes, RefusesToOpen, alert_of}
+use Rattle.records.specs.Refusals.{RefusesToOpen, alert_of}
 use Rattle.records.specs.declared.content_type.ContentType.{ContentType}
 use Rattle.records.specs.declared.record_error.RecordError.{RecordError}
-use Rattle.records.specs.declared.record_error.RecordError.TheVariants.{AlertLength, Closed, EmptyContent, KeyUsedUp, NoContentType, Refused}
+use Rattle.records.specs.declared.record_error.RecordError.TheVariants.{AlertLength, Closed, EmptyContent, KeyUsedUp, NoContentType}
 use Rattle.records.specs.declared.record_error.RecordError.TheVariants.{UnexpectedType}
 
 -- opening the record with this number returns its type and its content, or the reason why it does not open
@@ -60,12 +60,6 @@ pub record OpensMessage (key : KeyState) (number : ℕ) (bytes : List ℕ) (at :
   pub len : n + 21 ≡ length bytes
   pub sealed : Seals key number bytes (take n (drop at new))
   pub left : new ≡ overwritten old at (take n (drop at new))
-
--- why no message is opened
-abbrev pub RefusesMessage : KeyState → ℕ → List ℕ → RecordError → Type 0
-RefusesMessage key number bytes Refused =
-    IsWhole key.size_limit bytes × ((message : List ℕ) → ¬ Seals key number bytes message)
-RefusesMessage key number bytes error = RefusesBytes key.size_limit bytes error
 
 -- a record is written under the next number
 pub record Writes (was now : WriterState) (inner : Inner) (bytes : List ℕ) : Type 0 where

@@ -1,8 +1,9 @@
 //! The header of a record.
 
-ghost use Rattle.std.specs.Prelude.{◌≡◌, ◌+◌, ◌-◌, ◌^◌, ◌<◌, ◌≤◌, ◌↔◌, length, take, IsOk, IfOk, IfErr, IsSome, IfSome};
+ghost use Rattle.std.specs.Prelude.{◌≡◌, ◌+◌, ◌-◌, ◌^◌, ◌<◌, ◌≤◌, ◌↔◌, ◌++◌, length, take, IsErrOf, IsFalse, IsTrue, IsOk, IfOk, IfErr, IsSome, IfSome};
 ghost use Rattle.records.specs.Record.{header, body_len, IsHeader, IsWhole};
 ghost use Rattle.records.specs.Refusals.{RefusesBytes, RefusesHeader, RefusesLen};
+ghost use Rattle.records.specs.Stream.{BeginsProtected};
 
 use crate::record_error::RecordError;
 use crate::{HEADER_LEN, TAG_LEN};
@@ -86,6 +87,32 @@ pub(crate) fn check_len(size_limit: usize, len: usize) -> Result<(), RecordError
         return Err(RecordError::EncryptedRecordTooShort);
     }
     Ok(())
+}
+
+/// The header of the record with this payload.
+pub(crate) fn header_of_payload(
+    size_limit: usize,
+    payload: &[u8],
+) -> Result<[u8; HEADER_LEN], RecordError>
+    requires { size_limit ≤ 2 ^ 14 + 256 - 16 }
+    ensures accepted { IsOk result ↔ IsWhole size_limit (header (length payload.now) ++ payload.now) }
+    ensures header { IfOk result (λ made. made ≡ header (length payload.now)) }
+    ensures refused { length payload.now ≤ 2 ^ 14 + 256
+        → IfErr result (RefusesBytes size_limit (header (length payload.now) ++ payload.now)) }
+    ensures too_long { IsErrOf result RecordError.EncryptedRecordTooLong ↔ (2 ^ 14 + 256 < length payload.now) }
+{
+    check_len(size_limit, payload.len())?;
+    Ok(header_of(payload.len()))
+}
+
+/// Whether the inner plaintext of this record, which is whole, is within the size limit.
+pub(crate) fn is_within(size_limit: usize, bytes: &[u8]) -> bool
+    requires limit { size_limit ≤ 2 ^ 14 + 1 }
+    requires begins { BeginsProtected bytes.now (length bytes.now) }
+    ensures whole { IsTrue result → IsWhole size_limit bytes.now }
+    ensures long { IsFalse result → size_limit + 16 < body_len (take HEADER_LEN bytes.now) }
+{
+    bytes.len() <= HEADER_LEN + size_limit + TAG_LEN
 }
 
 /// The header of these bytes, if they are one whole record.

@@ -10,10 +10,11 @@ ghost use Rattle.records.specs.Appending.{Appended};
 ghost use Rattle.records.specs.Keys.{HasKey, new_key, rekeyed, secret_key, suite_algorithm};
 ghost use Rattle.records.specs.Record.{header, plaintext, record_at, type_code, Carries, Inner, IsAllowed, IsWhole, Seals};
 ghost use Rattle.records.specs.Refusals.{RefusesContent, RefusesToOpenTo, RefusesToSeal};
-ghost use Rattle.records.specs.Steps.{content_at, LeavesInner, LeavesRefused, Opens, OpensMessage, RefusesMessage};
+ghost use Rattle.records.specs.Steps.{content_at, LeavesInner, LeavesRefused, Opens, OpensMessage};
+ghost use Rattle.records.specs.Stream.{BeginsProtected};
 
 use crate::content_type::ContentType;
-use crate::header::{check_len, header_in, header_of};
+use crate::header::{Header, header_in, header_of, header_of_payload, is_within};
 use crate::inner::{content_of, inner_len, pad};
 use crate::record_error::RecordError;
 use crate::{HEADER_LEN, MAX_SIZE_LIMIT, MIN_SIZE_LIMIT, TAG_LEN};
@@ -429,36 +430,12 @@ impl RecordKey {
         ensures kept { IfErr result (LeavesRefused self.now number
             (header (length payload.old) ++ payload.old) 0 payload.old payload.new) }
     {
-        let len = self.open_body(number, payload)?;
+        let header = header_of_payload(self.size_limit, payload)?;
+        let len = self.open_front(number, &header, payload, 0)?;
         // A match, so that `opens` is proved of each case by itself: of both at once it remains open.
         match content_of(&payload[..len]) {
             Ok(found) => Ok(found),
             Err(error) => Err(error),
-        }
-    }
-
-    /// Opens the inner plaintext of a payload to its front, and returns its length.
-    fn open_body(&self, number: u64, payload: &mut [u8]) -> Result<usize, RecordError>
-        ensures opened { IfOk result (OpensMessage
-            self.now number (header (length payload.old) ++ payload.old) 0 payload.old payload.new) }
-        ensures within { IfOk result (λ n. n + 16 ≡ length payload.old) }
-        ensures refused { length payload.old ≤ 2 ^ 14 + 256 → IfErr result (RefusesMessage
-            self.now number (header (length payload.old) ++ payload.old)) }
-        ensures too_long { IsErrOf result RecordError.EncryptedRecordTooLong
-            ↔ (2 ^ 14 + 256 < length payload.old) }
-        ensures none { OnErr result ((inner : Inner)
-            → ¬ Carries self.now number (header (length payload.old) ++ payload.old) inner) }
-        ensures kept { OnErr result (payload.new ≡ payload.old) }
-    {
-        check_len(self.size_limit, payload.len())?;
-        let header = header_of(payload.len());
-        let nonce = nonce_of(&self.iv, number);
-        match self
-            .key
-            .open_within_to_front(nonce, Aad::from(header.as_slice()), payload, 0..)
-        {
-            Ok(len) => Ok(len),
-            Err(_) => Err(RecordError::Refused),
         }
     }
 
@@ -544,7 +521,52 @@ impl RecordKey {
         ensures kept { IfErr result (LeavesRefused
             self.now number (slice_range bytes.old at end) filled bytes.old bytes.new) }
     {
-        let len = self.open_message(number, bytes, filled, at, end)?;
+        let header = header_in(self.size_limit, &bytes[at..end])?;
+        self.open_whole(number, &header, bytes, filled, at, end)
+    }
+
+    /// Opens the record that is the whole of `bytes`, whose header was read, to the front of `bytes`.
+    pub(crate) fn open_headed(
+        &self,
+        number: u64,
+        header: &Header,
+        bytes: &mut [u8],
+    ) -> Result<(ContentType, usize), RecordError>
+        requires header { header.now ≡ take HEADER_LEN bytes.old }
+        requires begins { BeginsProtected bytes.old (length bytes.old) }
+        ensures opens { Opens self.now number bytes.old (content_at 0 bytes.new result) }
+        ensures within { IfOk result (λ read. read.1 + 17 ≤ length bytes.old) }
+        ensures kept { IfErr result (LeavesRefused self.now number bytes.old 0 bytes.old bytes.new) }
+    {
+        if !is_within(self.size_limit, bytes) {
+            return Err(RecordError::InnerPlaintextTooLong);
+        }
+        let end = bytes.len();
+        self.open_whole(number, &header.bytes, bytes, 0, 0, end)
+    }
+
+    /// Opens the record `bytes[at..end]`, which has this header, into the bytes from `filled` on.
+    fn open_whole(
+        &self,
+        number: u64,
+        header: &[u8; HEADER_LEN],
+        bytes: &mut [u8],
+        filled: usize,
+        at: usize,
+        end: usize,
+    ) -> Result<(ContentType, usize), RecordError>
+        requires before { filled ≤ at + 5 }
+        requires range { (at ≤ end) × (end ≤ length bytes.old) }
+        requires whole { IsWhole self.now.size_limit (slice_range bytes.old at end) }
+        requires header { header.now ≡ take HEADER_LEN (slice_range bytes.old at end) }
+        ensures opens { Opens self.now number (slice_range bytes.old at end)
+            (content_at filled bytes.new result) }
+        ensures within { IfOk result (λ read. filled + read.1 + 17 ≤ end) }
+        ensures put { IfOk result (LeavesInner (end - at) filled bytes.old bytes.new) }
+        ensures kept { IfErr result (LeavesRefused
+            self.now number (slice_range bytes.old at end) filled bytes.old bytes.new) }
+    {
+        let len = self.open_message(number, header, bytes, filled, at, end)?;
         // A match, so that `opens` is proved of each case by itself: of both at once it remains open.
         match content_of(&bytes[filled..filled + len]) {
             Ok(read) => Ok(read),
@@ -552,10 +574,12 @@ impl RecordKey {
         }
     }
 
-    /// Opens an inner plaintext into the bytes from `filled` on, and returns its length.
+    /// Opens the inner plaintext of the record `bytes[at..end]`, which has this header, into the bytes from `filled` on, and
+    /// returns its length.
     fn open_message(
         &self,
         number: u64,
+        header: &[u8; HEADER_LEN],
         bytes: &mut [u8],
         filled: usize,
         at: usize,
@@ -563,23 +587,45 @@ impl RecordKey {
     ) -> Result<usize, RecordError>
         requires before { filled ≤ at + 5 }
         requires range { (at ≤ end) × (end ≤ length bytes.old) }
+        requires whole { IsWhole self.now.size_limit (slice_range bytes.old at end) }
+        requires header { header.now ≡ take HEADER_LEN (slice_range bytes.old at end) }
         ensures opened { IfOk result (OpensMessage
             self.now number (slice_range bytes.old at end) filled bytes.old bytes.new) }
         ensures within { IfOk result (λ n. filled + n + 16 ≤ end) }
-        ensures refused { IfErr result
-            (RefusesMessage self.now number (slice_range bytes.old at end)) }
-        ensures none { OnErr result ((inner : Inner)
-            → ¬ Carries self.now number (slice_range bytes.old at end) inner) }
+        ensures refused { IsOkUnless result RecordError.Refused }
+        ensures none { OnErr result
+            ((message : List ℕ) → ¬ Seals self.now number (slice_range bytes.old at end) message) }
         ensures kept { OnErr result (bytes.new ≡ bytes.old) }
     {
-        let header = header_in(self.size_limit, &bytes[at..end])?;
-        let start = at + HEADER_LEN - filled;
+        self.open_front(
+            number,
+            header,
+            &mut bytes[filled..end],
+            at + HEADER_LEN - filled,
+        )
+    }
+
+    /// Opens the record of this header and the bytes from `start` on, and returns the length of its inner plaintext, which is
+    /// then at the front of `bytes`.
+    fn open_front(
+        &self,
+        number: u64,
+        header: &[u8; HEADER_LEN],
+        bytes: &mut [u8],
+        start: usize,
+    ) -> Result<usize, RecordError>
+        requires whole { IsWhole self.now.size_limit (header.now ++ drop start bytes.old) }
+        ensures opened { IfOk result (OpensMessage
+            self.now number (header.now ++ drop start bytes.old) 0 bytes.old bytes.new) }
+        ensures within { IfOk result (λ n. start + n + 16 ≡ length bytes.old) }
+        ensures refused { IsOkUnless result RecordError.Refused }
+        ensures none { OnErr result ((message : List ℕ)
+            → ¬ Seals self.now number (header.now ++ drop start bytes.old) message) }
+        ensures kept { OnErr result (bytes.new ≡ bytes.old) }
+    {
         let nonce = nonce_of(&self.iv, number);
         let aad = Aad::from(header.as_slice());
-        match self
-            .key
-            .open_within_to_front(nonce, aad, &mut bytes[filled..end], start..)
-        {
+        match self.key.open_within_to_front(nonce, aad, bytes, start..) {
             Ok(len) => Ok(len),
             Err(_) => Err(RecordError::Refused),
         }

@@ -1,14 +1,17 @@
 //! Reading records.
 
-ghost use Rattle.std.specs.Prelude.{◌≡◌, ◌+◌, ◌-◌, ◌^◌, ◌≤◌, ◌↔◌, min, length, slice_range, None, IsTrue, IsFalse, IsSome, IsNone, IfSome, IsOk, IfOk, IsOkUnless, IsErrOf, IfErr, OnOk, OnErr, false};
+ghost use Rattle.std.specs.Prelude.{◌≡◌, ◌+◌, ◌-◌, ◌^◌, ◌<◌, ◌≤◌, ◌↔◌, ℕ, List, Err, min, length, take, slice_range, None, IsTrue, IsFalse, IsSome, IsNone, IfSome, IsOk, IfOk, IsOkUnless, IsErrOf, IfErr, OnOk, OnErr, false};
 ghost use Rattle.aead_ciphers.specs.Algorithm.{key_len};
 ghost use Rattle.records.specs.Keys.{IsKeyOf, IsOfSecret, new_key, next_reader, reader_of, rekeyed};
 ghost use Rattle.records.specs.Refusals.{RefusesReadKey};
 ghost use Rattle.records.specs.Steps.{content_at, lent_content, after_error, LeavesInner, LeavesRefused, Reads};
+ghost use Rattle.records.specs.Stream.{BeginsProtected};
 
 mod early_data;
 
+use crate::HEADER_LEN;
 use crate::content_type::ContentType;
+use crate::header::Header;
 use crate::key::RecordKey;
 use crate::record_error::RecordError;
 use aead_ciphers::aead::{Algorithm, NONCE_LEN};
@@ -258,22 +261,63 @@ impl Reader {
         ensures closed { IsTrue self.old.is_closed → IsErrOf result RecordError.Closed }
         ensures closes { IfErr result (λ error. self.new ≡ after_error self.old error) }
     {
+        let number = self.next_number()?;
+        let opened = self.key.open_within(number, bytes, filled, at, end);
+        self.settle(opened)
+    }
+
+    /// Opens the next record, which is the whole of `bytes` and whose header was read, to the front of `bytes`.
+    pub(crate) fn read_headed(
+        &mut self,
+        header: &Header,
+        bytes: &mut [u8],
+    ) -> Result<(ContentType, usize), RecordError>
+        requires header { header.now ≡ take HEADER_LEN bytes.old }
+        requires begins { BeginsProtected bytes.old (length bytes.old) }
+        ensures reads { Reads self.old self.new bytes.old (content_at 0 bytes.new result) }
+        ensures within { IfOk result (λ read. read.1 + 17 ≤ length bytes.old) }
+        ensures kept { IfErr result
+            (LeavesRefused self.old.key self.old.number bytes.old 0 bytes.old bytes.new) }
+    {
+        let number = self.next_number()?;
+        let opened = self.key.open_headed(number, header, bytes);
+        self.settle(opened)
+    }
+
+    /// The number of the next record, unless the reader is closed or its key used up.
+    fn next_number(&self) -> Result<u64, RecordError>
+        ensures next { IfOk result (λ number. (number ≡ self.now.number) × (number < self.now.limit)
+            × (number + 1 < 2 ^ 64) × IsFalse self.now.is_closed) }
+        ensures closed { IsTrue self.now.is_closed → IsErrOf result RecordError.Closed }
+        ensures reads { IfErr result (λ error. (bytes : List ℕ) → Reads self.now self.now bytes (Err error)) }
+        ensures kept { IfErr result (λ error. (bytes buffer : List ℕ) (at : ℕ)
+            → LeavesRefused self.now.key self.now.number bytes at buffer buffer error) }
+    {
         if self.is_closed {
             return Err(RecordError::Closed);
         }
         if self.number >= self.limit {
             return Err(RecordError::KeyUsedUp);
         }
-        match self.key.open_within(self.number, bytes, filled, at, end) {
-            Ok(read) => {
-                self.number += 1;
-                Ok(read)
-            }
-            Err(error) => {
-                self.is_closed = error.alert().is_some();
-                Err(error)
-            }
+        Ok(self.number)
+    }
+
+    /// Counts the record that was opened, or closes the reader if the error has an alert.
+    fn settle(
+        &mut self,
+        opened: Result<(ContentType, usize), RecordError>,
+    ) -> Result<(ContentType, usize), RecordError>
+        requires open { IsFalse self.old.is_closed }
+        requires next { self.old.number + 1 < 2 ^ 64 }
+        ensures same { result ≡ opened }
+        ensures counted { OnOk opened (self.new ≡ record self.old { number = self.old.number + 1 }) }
+        ensures stands { IfErr opened (λ error. self.new ≡ after_error self.old error) }
+    {
+        match &opened {
+            Ok(_) => self.number += 1,
+            Err(error) => self.is_closed = error.alert().is_some(),
         }
+        opened
     }
 
     /// Opens the next record, which is the whole of `bytes`, and returns its type and its content, which is then at the front

@@ -1,6 +1,6 @@
 //! The first record of a stream of bytes.
 
-ghost use Rattle.std.specs.Prelude.{◌≡◌, ◌+◌, IfOk, IfErr};
+ghost use Rattle.std.specs.Prelude.{◌≡◌, ◌+◌, ◌≤◌, length, take, IfOk, IfErr};
 ghost use Rattle.records.specs.Record.{body_len};
 ghost use Rattle.records.specs.Stream.{BeginsWith, IsHeaderOf, RefusesStart, RefusesToClassify};
 
@@ -58,10 +58,20 @@ pub fn classify(bytes: &[u8]) -> Result<Begins, RecordError>
     ensures begins { IfOk result (BeginsWith bytes.now) }
     ensures refused { IfErr result (RefusesToClassify bytes.now) }
 {
-    let Some(header) = Header::read(bytes) else {
-        return Ok(Begins::MoreNeeded(HEADER_LEN));
-    };
-    let (kind, len) = kind_of(&header)?;
+    match Header::read(bytes) {
+        Some(header) => classify_headed(&header, bytes),
+        None => Ok(Begins::MoreNeeded(HEADER_LEN)),
+    }
+}
+
+/// Returns what a stream begins with, whose header was read.
+pub(crate) fn classify_headed(header: &Header, bytes: &[u8]) -> Result<Begins, RecordError>
+    requires whole { HEADER_LEN ≤ length bytes.now }
+    requires header { header.now ≡ take HEADER_LEN bytes.now }
+    ensures begins { IfOk result (BeginsWith bytes.now) }
+    ensures refused { IfErr result (RefusesToClassify bytes.now) }
+{
+    let (kind, len) = kind_of(header)?;
     if bytes.len() < len {
         return Ok(Begins::MoreNeeded(len));
     }

@@ -1,16 +1,18 @@
 //! What an end receives, one record after another.
 
-ghost use Rattle.std.specs.Prelude.{◌≡◌, ◌≢◌, ◌+◌, ◌||◌, ◌==◌, ◌≤◌, ◌<◌, [], length, drop, map, slice_index, false, IsFalse, IfOk, IfErr, IfSome, OnOk, OnErr, None, cond, vec_capacity};
+ghost use Rattle.std.specs.Prelude.{◌≡◌, ◌≢◌, ◌+◌, ◌||◌, ◌==◌, ◌≤◌, ◌<◌, [], length, take, drop, map, slice_index, false, IsFalse, IfOk, IfErr, IfSome, OnOk, OnErr, None, cond, vec_capacity};
 ghost use Rattle.records.specs.Connection.{Brings, Fails, FailsToBring, LeavesRecord, Rejects, Step, handling, receiving};
 ghost use Rattle.records.specs.Handling.{HandlesAll, MayHandle, RefusesToHandle, RejectsMessages, after_message};
 ghost use Rattle.records.specs.Keys.{IsOfSecret, next_reader};
 ghost use Rattle.records.specs.Stream.{BeginsProtected, NeedsMore, RefusesProtected, Taken};
 
 use super::receive_error::ReceiveError;
+use crate::HEADER_LEN;
 use crate::content_type::ContentType;
+use crate::header::Header;
 use crate::reader::Reader;
 use crate::record_error::RecordError;
-use crate::stream::{Begins, RecordKind, classify};
+use crate::stream::{Begins, RecordKind, classify_headed};
 use std::alloc::Global;
 use tls_messages::MessageReader;
 use tls_messages::message_type::KEY_UPDATE;
@@ -199,16 +201,19 @@ fn receive_content(
     Ok(())
 }
 
-/// Receives one protected record, which is the whole of `bytes`.
+/// Receives one protected record, which is the whole of `bytes` and has this header.
 fn receive_record(
     alloc: Global,
     incoming: &mut Incoming,
     messages: &mut MessageReader<'_>,
+    header: &Header,
     bytes: &mut [u8],
     received: &mut Received,
 ) -> Result<(), ReceiveError>
     requires is_of { IsOfSecret incoming.old.reader.secret incoming.old.reader.key }
     requires going { IsFalse incoming.old.is_ended × IsFalse messages.old.is_closed }
+    requires header { header.now ≡ take HEADER_LEN bytes.old }
+    requires begins { BeginsProtected bytes.old (length bytes.old) }
     ensures step { OnOk result (Step (receiving incoming.old messages.old received.old) bytes.old
         (receiving incoming.new messages.new received.new)) }
     ensures failed { IfErr result (λ error. Fails (vec_capacity received.old.application_data)
@@ -221,8 +226,7 @@ fn receive_record(
         ≤ vec_capacity received.new.application_data }
     ensures is_of { IsOfSecret incoming.new.reader.secret incoming.new.reader.key }
 {
-    let end = bytes.len();
-    let (content_type, len) = incoming.reader.gather(bytes, 0, 0, end)?;
+    let (content_type, len) = incoming.reader.read_headed(header, bytes)?;
     receive_content(
         alloc,
         incoming,
@@ -233,16 +237,28 @@ fn receive_record(
     )
 }
 
-/// The length of the protected record at the front of these bytes, or `None` if it is not whole.
+/// A whole protected record that a stream begins with.
+#[derive(Drop)]
+struct FirstRecord {
+    header: Header,
+    /// Its length in bytes, including the header.
+    len: usize,
+}
+
+/// The protected record at the front of these bytes, or `None` if it is not whole.
 #[tactic(auto, unfolding(crate::specs::Stream::NeedsMore))]
-fn protected_record_len(bytes: &[u8]) -> Result<Option<usize>, RecordError>
-    ensures len { IfOk result (λ found. IfSome found (λ n. (0 < n) × (n ≤ length bytes.now)
-        × BeginsProtected bytes.now n)) }
+fn first_record(bytes: &[u8]) -> Result<Option<FirstRecord>, RecordError>
+    ensures header { IfOk result (λ found. IfSome found (λ first. first.header ≡ take HEADER_LEN bytes.now)) }
+    ensures len { IfOk result (λ found. IfSome found (λ first. (0 < first.len) × (first.len ≤ length bytes.now)
+        × BeginsProtected bytes.now first.len)) }
     ensures more { IfOk result (λ found. found ≡ None → NeedsMore bytes.now) }
     ensures refused { IfErr result (RefusesProtected bytes.now) }
 {
-    match classify(bytes)? {
-        Begins::Record(RecordKind::Protected, len) => Ok(Some(len)),
+    let Some(header) = Header::read(bytes) else {
+        return Ok(None);
+    };
+    match classify_headed(&header, bytes)? {
+        Begins::Record(RecordKind::Protected, len) => Ok(Some(FirstRecord { header, len })),
         Begins::Record(_, _) => Err(RecordError::UnexpectedRecord),
         Begins::MoreNeeded(_) => Ok(None),
     }
@@ -271,9 +287,16 @@ pub(super) fn receive_records(
     ensures is_of { IsOfSecret incoming.new.reader.secret incoming.new.reader.key }
 {
     let mut at = 0;
-    while let Some(len) = protected_record_len(&bytes[at..])? {
-        let end = at + len;
-        receive_record(alloc, incoming, messages, &mut bytes[at..end], received)?;
+    while let Some(first) = first_record(&bytes[at..])? {
+        let end = at + first.len;
+        receive_record(
+            alloc,
+            incoming,
+            messages,
+            &first.header,
+            &mut bytes[at..end],
+            received,
+        )?;
         if incoming.is_ended {
             return Ok(end);
         }

@@ -5,8 +5,8 @@ use Rattle.records.specs.Stream.{Taken}
 use Rattle.records.proofs.connection.receiving.receive_records.Given as goal
 
 -- the records before `at` are received, and the bytes from there on are as they were
-abbrev pub invariant-loop-len : goal.invariant-loop-len
-invariant-loop-len l = record {
+abbrev pub invariant-loop-first : goal.invariant-loop-first
+invariant-loop-first l = record {
   in_range : l.at ≤ length l.bytes;
   same_len : length l.bytes ≡ length l.fn.bytes;
   taken : Taken Step l.fn.bytes (receiving l.initial.incoming l.initial.messages l.initial.received) l.at
@@ -18,5 +18,5 @@ invariant-loop-len l = record {
   capacity : vec_capacity l.initial.received.application_data ≤ vec_capacity l.received.application_data;
 }
 
-abbrev pub decreases-loop-len : goal.decreases-loop-len
-decreases-loop-len l = length l.bytes - l.at
+abbrev pub decreases-loop-first : goal.decreases-loop-first
+decreases-loop-first l = length l.bytes - l.at

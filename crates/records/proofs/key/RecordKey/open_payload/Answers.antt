@@ -1,5 +1,21 @@
-use Rattle.records.proofs.RecordLemmas.{refused_opens}
+use Rattle.std.proofs.Common.{◌∙◌, refl}
+use Rattle.std.proofs.lemmas.Result.{err_from_is_err_and}
+use Rattle.records.specs.Keys.{key_state}
+use Rattle.records.proofs.RecordLemmas.{opens_false, opens_none, refused_opens}
 use Rattle.records.proofs.key.RecordKey.open_payload.Goals as goal
 
+pub returns-in_err-header-clause-opens : goal.returns-in_err-header-clause-opens
+returns-in_err-header-clause-opens c = λ fits.
+    let p = err_from_is_err_and c.from_residual.result c.from_residual.ensures.1 in
+    rw (p.1, p.2, ← c.self.view_is) (opens_none (key_state c.self.inside) c.args.number _ _
+    (λ whole. let no = c.in_err-header.ensures.accepted.1 whole in cc) (c.in_err-header.ensures.refused fits))
+
+pub returns-in_err-len-clause-opens : goal.returns-in_err-len-clause-opens
+returns-in_err-len-clause-opens c = λ _.
+    let p = err_from_is_err_and c.from_residual-in_err-len.result c.from_residual-in_err-len.ensures.1 in
+    rw p.1 (opens_false c.args.self.now c.args.number _ _ (p.2 ∙ c.in_err-len.ensures.refused)
+    (rw (← c.self.view_is) (c.in_ok-header.ensures.accepted.0 refl)) (rw c.in_ok-header.ensures.header at c.in_err-len.ensures.none))
+
 pub returns-in-Err-clause-opens : goal.returns-in-Err-clause-opens
-returns-in-Err-clause-opens c = λ _. refused_opens _ _ _ _ _ _ _ c.in_ok-len.ensures.opened _ c.in-Err.ensures.refused
+returns-in-Err-clause-opens c = λ _.
+    refused_opens _ _ _ _ _ _ _ (rw c.in_ok-header.ensures.header at c.in_ok-len.ensures.opened) _ c.in-Err.ensures.refused

@@ -1,14 +1,10 @@
-use Rattle.std.proofs.Common.{◌≡◌, ◌+◌, ◌-◌, arith}
 use Rattle.std.proofs.lemmas.Result.{err_from_is_err_and}
-use Rattle.records.proofs.RecordLemmas.{opens_none, refused_opens}
+use Rattle.records.specs.Keys.{key_state}
+use Rattle.records.proofs.RecordLemmas.{opens_none}
 use Rattle.records.proofs.key.RecordKey.open_within.Goals as goal
 
-pub returns-in_err-len-clause-opens : goal.returns-in_err-len-clause-opens
-returns-in_err-len-clause-opens c =
+pub returns-in_err-header-clause-opens : goal.returns-in_err-header-clause-opens
+returns-in_err-header-clause-opens c =
     let p = err_from_is_err_and c.from_residual.result c.from_residual.ensures.1 in
-    rw (p.1, p.2) (opens_none c.args.self.now c.args.number _ _ c.in_err-len.ensures.none c.in_err-len.ensures.refused)
-
-pub returns-in-Err-clause-opens : goal.returns-in-Err-clause-opens
-returns-in-Err-clause-opens c =
-    let same : c.args.filled + c.in_ok-len.len - c.args.filled ≡ c.in_ok-len.len = omega arith in
-    refused_opens _ _ _ _ _ _ _ c.in_ok-len.ensures.opened _ (rw same at c.in-Err.ensures.refused)
+    rw (p.1, p.2, ← c.self.view_is) (opens_none (key_state c.self.inside) c.args.number _ _
+    (λ whole. let no = c.in_err-header.ensures.accepted.1 whole in cc) c.in_err-header.ensures.refused)
