@@ -1,31 +1,16 @@
 -- Joined reading gives back what a writer was asked to write.
-use Rattle.std.proofs.Common.{◌≡◌, ℕ, Bool, List, [], ◌++◌, map, sym, subst}
+use Rattle.std.proofs.Common.{ℕ, Bool, List, [], ◌++◌, map, sym, subst}
 use Rattle.aead_ciphers.specs.Runs.{Runs}
 use Rattle.records.specs
-use specs.Joined.{Accepts, Joins, Says, Token, ends_in_update, joins_alert, joins_data, joins_messages, joins_nothing, joins_update}
-use specs.Joined.{message, says_alert, says_data, says_messages, says_nothing, says_update}
+use specs.Joined.{Joins, Says, Token, ends_in_update, joins_alert, joins_data, joins_messages, joins_nothing, joins_update}
+use specs.Joined.{says_alert, says_data, says_messages, says_nothing, says_update}
 use specs.Keys.{ReaderState, WriterState}
 use specs.Record.{Inner}
-use specs.Runs.{Answer, Event, Follows, ReadStep, WriteStep, as_asked, carries}
-use specs.declared.content_type.ContentType.TheVariants.{Handshake}
-use Rattle.std.specs.Prelude.{Ok, ◌∷◌, false}
-use Rattle.tls_messages.specs.Messages.{messages_of, part_of}
+use specs.Runs.{Answer, Event, Follows, ReadStep, WriteStep, as_asked}
+use Rattle.std.specs.Prelude.{false}
 use Rattle.tls_messages.specs.declared.stage.Stage.{Stage}
 use Rattle.tls_messages.proofs.StreamLemmas.{of_splits}
 use Rattle.records.proofs.RunLemmas.{reading_undoes_writing}
-
--- a content that splits into these messages and this part
-joins_split : (stage : Stage) (bound : ℕ) (part content left : List ℕ) (messages : List (List ℕ)) (later : List (Event Answer))
-    (rest : List Token) → messages_of (part ++ content) ≡ messages → part_of (part ++ content) ≡ left
-    → Accepts stage bound messages left → Joins stage bound left (ends_in_update messages) later rest
-    → Joins stage bound part false (carries (Ok (Handshake, content)) ∷ later) (map message messages ++ rest)
-joins_split stage bound part content left messages later rest all end accepted joined =
-    subst (λ ms. Joins stage bound part false (carries (Ok (Handshake, content)) ∷ later) (map message ms ++ rest)) all
-    (joins_messages part content later rest
-    (subst (λ ms. Accepts stage bound ms (part_of (part ++ content))) (sym all)
-    (subst (λ p. Accepts stage bound messages p) (sym end) accepted))
-    (subst (λ ms. Joins stage bound (part_of (part ++ content)) (ends_in_update ms) later rest) (sym all)
-    (subst (λ p. Joins stage bound p (ends_in_update messages) later rest) (sym end) joined)))
 
 joins_asked : (stage : Stage) (bound : ℕ) (part : List ℕ) (is_due : Bool) (asked : List (Event Inner)) (tokens : List Token)
     → Says stage bound part is_due asked tokens → Joins stage bound part is_due (map as_asked asked) tokens
@@ -34,8 +19,9 @@ joins_asked stage bound part is_due asked tokens (says_data content padding late
     joins_data content (map as_asked later) rest (joins_asked stage bound [] false later rest says)
 joins_asked stage bound part is_due asked tokens (says_messages was content left padding messages later rest splits accepted says) =
     let same = of_splits (was ++ content) messages left splits in
-    joins_split stage bound was content left messages (map as_asked later) rest same.0 same.1 accepted
-    (joins_asked stage bound left (ends_in_update messages) later rest says)
+    rw (← same.0)
+    (joins_messages was content (map as_asked later) rest (rw (same.0, same.1) accepted)
+    (rw (same.0, same.1) (joins_asked stage bound left (ends_in_update messages) later rest says)))
 joins_asked stage bound part is_due asked tokens (says_alert content padding later rest says) =
     joins_alert content (map as_asked later) rest (joins_asked stage bound [] false later rest says)
 joins_asked stage bound part is_due asked tokens (says_update key iv later rest says) =

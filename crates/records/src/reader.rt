@@ -1,6 +1,6 @@
 //! Reading records.
 
-ghost use Rattle.std.specs.Prelude.{◌≡◌, ◌+◌, ◌-◌, ◌^◌, ◌<◌, ◌≤◌, ◌↔◌, ℕ, List, Err, min, length, take, slice_range, None, IsTrue, IsFalse, IsSome, IsNone, IfSome, IsOk, IfOk, IsOkUnless, IsErrOf, IfErr, OnOk, OnErr, false};
+ghost use Rattle.std.specs.Prelude.{◌≡◌, ◌+◌, ◌-◌, ◌^◌, ◌<◌, ◌≤◌, ◌↔◌, ℕ, List, Err, min, length, take, slice_range, None, Some, IsTrue, IsFalse, IsSome, IsNone, IfNone, IfSome, IsOk, IfOk, IsOkUnless, IsErrOf, IfErr, OnOk, OnErr, false};
 ghost use Rattle.aead_ciphers.specs.Algorithm.{key_len};
 ghost use Rattle.records.specs.Keys.{IsKeyOf, IsOfSecret, new_key, next_reader, reader_of, rekeyed};
 ghost use Rattle.records.specs.Refusals.{RefusesReadKey};
@@ -261,8 +261,10 @@ impl Reader {
         ensures closed { IsTrue self.old.is_closed → IsErrOf result RecordError.Closed }
         ensures closes { IfErr result (λ error. self.new ≡ after_error self.old error) }
     {
-        let number = self.next_number()?;
-        let opened = self.key.open_within(number, bytes, filled, at, end);
+        if let Some(error) = self.refusal() {
+            return Err(error);
+        }
+        let opened = self.key.open_within(self.number, bytes, filled, at, end);
         self.settle(opened)
     }
 
@@ -279,27 +281,29 @@ impl Reader {
         ensures kept { IfErr result
             (LeavesRefused self.old.key self.old.number bytes.old 0 bytes.old bytes.new) }
     {
-        let number = self.next_number()?;
-        let opened = self.key.open_headed(number, header, bytes);
+        if let Some(error) = self.refusal() {
+            return Err(error);
+        }
+        let opened = self.key.open_headed(self.number, header, bytes);
         self.settle(opened)
     }
 
-    /// The number of the next record, unless the reader is closed or its key used up.
-    fn next_number(&self) -> Result<u64, RecordError>
-        ensures next { IfOk result (λ number. (number ≡ self.now.number) × (number < self.now.limit)
-            × (number + 1 < 2 ^ 64) × IsFalse self.now.is_closed) }
-        ensures closed { IsTrue self.now.is_closed → IsErrOf result RecordError.Closed }
-        ensures reads { IfErr result (λ error. (bytes : List ℕ) → Reads self.now self.now bytes (Err error)) }
-        ensures kept { IfErr result (λ error. (bytes buffer : List ℕ) (at : ℕ)
+    /// Why the next record is not read, if the reader is closed or its key used up.
+    fn refusal(&self) -> Option<RecordError>
+        ensures none { IfNone result ((self.now.number < self.now.limit)
+            × (self.now.number + 1 < 2 ^ 64) × IsFalse self.now.is_closed) }
+        ensures closed { IsTrue self.now.is_closed → result ≡ Some RecordError.Closed }
+        ensures reads { IfSome result (λ error. (bytes : List ℕ) → Reads self.now self.now bytes (Err error)) }
+        ensures kept { IfSome result (λ error. (bytes buffer : List ℕ) (at : ℕ)
             → LeavesRefused self.now.key self.now.number bytes at buffer buffer error) }
     {
         if self.is_closed {
-            return Err(RecordError::Closed);
+            return Some(RecordError::Closed);
         }
         if self.number >= self.limit {
-            return Err(RecordError::KeyUsedUp);
+            return Some(RecordError::KeyUsedUp);
         }
-        Ok(self.number)
+        None
     }
 
     /// Counts the record that was opened, or closes the reader if the error has an alert.

@@ -116,6 +116,7 @@ fn handle_message(
 }
 
 /// Takes the messages of a handshake record: follows each KeyUpdate, and appends the others.
+#[tactic(auto, using(crate::specs::Handling::none_handled))]
 fn receive_messages(
     alloc: Global,
     incoming: &mut Incoming,

@@ -1,20 +1,7 @@
-use Rattle.std.proofs.Common.{refl, ap, ◌∙◌, Ok, Some, None}
+use Rattle.std.proofs.Common.{ap, refl, ◌∙◌, Ok, Some, None}
 use Rattle.std.proofs.lemmas.Result.{err_from_is_err_and}
-use Rattle.records.specs.Handling.{none_handled}
 use Rattle.records.proofs.ConnectionLemmas.{handles_all, handles_one, leaves_ok, rejects_handling}
 use Rattle.records.proofs.connection.receiving.receive_messages.Goals as goal
-
-pub loop-message-init : goal.loop-message-init
-loop-message-init c = record {
-  is_of = c.requires.is_of;
-  reader_open = c.requires.open.0;
-  is_open = c.requires.open.1;
-  is_ended = refl;
-  update_bound = refl;
-  stage = refl;
-  bound = refl;
-  handles = none_handled;
-}
 
 pub loop-message-preserved : goal.loop-message-preserved
 loop-message-preserved c =

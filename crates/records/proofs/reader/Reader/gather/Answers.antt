@@ -1,18 +1,12 @@
 use Rattle.std.proofs.Common.{◌-◌, take, drop}
-use Rattle.std.proofs.lemmas.Result.{err_from_is_err_and}
 use Rattle.records.proofs.reader.Reader.gather.Goals as goal
 
-pub returns-in_err-number-clause-reads : goal.returns-in_err-number-clause-reads
-returns-in_err-number-clause-reads c =
-    let p = err_from_is_err_and c.from_residual.result c.from_residual.ensures.1 in
-    rw (p.1, p.2) (c.in_err-number.ensures.reads _)
+pub returns-in-Some-clause-reads : goal.returns-in-Some-clause-reads
+returns-in-Some-clause-reads c = c.in-Some.ensures.reads _
 
-pub returns-in_err-number-clause-kept : goal.returns-in_err-number-clause-kept
-returns-in_err-number-clause-kept c =
-    let p = err_from_is_err_and c.from_residual.result c.from_residual.ensures.1 in
-    rw (p.1, p.2) (c.in_err-number.ensures.kept (take (c.args.end - c.args.at) (drop c.args.at c.args.bytes.now)) c.args.bytes.now c.args.filled)
+pub returns-in-Some-clause-kept : goal.returns-in-Some-clause-kept
+returns-in-Some-clause-kept c =
+    c.in-Some.ensures.kept (take (c.args.end - c.args.at) (drop c.args.at c.args.bytes.now)) c.args.bytes.now c.args.filled
 
-pub returns-in_err-number-clause-closes : goal.returns-in_err-number-clause-closes
-returns-in_err-number-clause-closes c =
-    let p = err_from_is_err_and c.from_residual.result c.from_residual.ensures.1 in
-    rw (p.1, p.2) (c.in_err-number.ensures.reads c.args.bytes.now).stands
+pub returns-in-Some-clause-closes : goal.returns-in-Some-clause-closes
+returns-in-Some-clause-closes c = (c.in-Some.ensures.reads c.args.bytes.now).stands
