@@ -7,7 +7,7 @@ use specs.Int.Bits.{xor_zero_r}
 use proofs.Math.Dec.{lit<}
 use proofs.lemmas.Nat.{or_shifted, xor_block, xor_lt}
 use proofs.lemmas.Simd.{Each1-get_or, get_or-zip2, get_or-replicate, length-zip2}
-use Rattle.aead_ciphers.specs.Multiples.{entry, number_of_words}
+use Rattle.aead_ciphers.specs.Multiples.{entry, number_of_words, place}
 use Rattle.aead_ciphers.proofs.GhashBits.{mask, masked}
 pub use Rattle.aead_ciphers_base.proofs.PlaneBlocks.{by_four}
 
@@ -20,7 +20,7 @@ added_under_mask s w x small below = ap (bit_xor s) (masked 32 w x small below) 
     go false = xor_zero_r s
     go true = refl
 
--- the code's masks, from the highest bit of each lane
+-- the masks of `add_chosen`: all ones in each lane whose highest bit is set, and zeros in the others
 abbrev pub masks : List ℕ → List ℕ
 masks bits = zip2 (λ a b. (a + (2 ^ 32 - b)) % 2 ^ 32) (replicate 4 0) (zip2 (λ x n. x / 2 ^ n) bits (replicate 4 31))
 
@@ -86,7 +86,7 @@ pub number-xor : (xs ys : List ℕ) → length xs ≡ length ys → AllSmall xs 
     number_of_words (zip2 bit_xor xs ys) ≡ bit_xor (number_of_words xs) (number_of_words ys)
 number-xor xs ys e small_x small_y = number-xor-from 0 0 xs ys e small_x small_y
 
--- words that are added where b says so
+-- four words are added exactly if b is true
 pub words_chosen : (b : Bool) (s0 s1 s2 s3 w0 w1 w2 w3 t0 t1 t2 t3 : ℕ) →
     let s = s0 ∷ s1 ∷ s2 ∷ s3 ∷ [] in let w = w0 ∷ w1 ∷ w2 ∷ w3 ∷ [] in AllSmall s → AllSmall w →
     t0 ≡ (if b then bit_xor s0 w0 else s0) → t1 ≡ (if b then bit_xor s1 w1 else s1) →
@@ -164,16 +164,13 @@ pub entry_is : (table : List ℕ) (j i : ℕ) → j < 4 → i < 32 →
     ≡ number_of_words (slice_index table (4 * i + j) ∷ slice_index table (128 + 4 * i + j)
     ∷ slice_index table (256 + 4 * i + j) ∷ slice_index table (384 + 4 * i + j) ∷ [])
 entry_is table j i within inner =
-    let row : (32 * j + i) % 32 ≡ i = omega arith in
-    let lane : (32 * j + i) / 32 ≡ j = omega arith in
-    let zero_more : 128 * 0 + 4 * i + j ≡ 4 * i + j = omega arith in
-    rw (row, lane) (rw zero_more refl)
+    let first : 128 * 0 + place (32 * j + i) ≡ 4 * i + j = omega arith in
+    let second : 128 * 1 + place (32 * j + i) ≡ 128 + 4 * i + j = omega arith in
+    let third : 128 * 2 + place (32 * j + i) ≡ 256 + 4 * i + j = omega arith in
+    let fourth : 128 * 3 + place (32 * j + i) ≡ 384 + 4 * i + j = omega arith in
+    rw (first, second, third, fourth) refl
 
 -- ---- four words written into a table
-
--- where the words of entry k stand
-abbrev pub place : ℕ → ℕ
-place k = 4 * (k % 32) + k / 32
 
 module _ (table : List ℕ) (p a b c d : ℕ) where
   abbrev one : List ℕ
@@ -214,11 +211,8 @@ module _ (table : List ℕ) (p a b c d : ℕ) where
 -- entry k of a table
 entry_at : (table : List ℕ) (k : ℕ) → entry table k ≡ number_of_words (words_from table (place k))
 entry_at table k =
-    let e0 : 128 * 0 + 4 * (k % 32) + k / 32 ≡ place k = omega arith in
-    let e1 : 128 * 1 + 4 * (k % 32) + k / 32 ≡ 128 + place k = omega arith in
-    let e2 : 128 * 2 + 4 * (k % 32) + k / 32 ≡ 256 + place k = omega arith in
-    let e3 : 128 * 3 + 4 * (k % 32) + k / 32 ≡ 384 + place k = omega arith in
-    rw (e0, e1, e2, e3) refl
+    let first : 128 * 0 + place k ≡ place k = omega arith in
+    rw first refl
 
 pub entry-written : (table : List ℕ) (k a b c d : ℕ) → length table ≡ 512 → k < 128 →
     entry (written table (place k) a b c d) k ≡ number_of_words (a ∷ b ∷ c ∷ d ∷ [])
@@ -241,5 +235,5 @@ entry-written_other table k a b c d j within below =
       written_other table p a b c d (384 + q) (omega arith) (omega arith) (omega arith) (omega arith),
     ) (sym (entry_at table j))
 
--- a chosen lane, for the search of a function
+-- the lemmas that `add_chosen` names
 pub ruleset chosen_lanes = (lane-chosen, lane-small)

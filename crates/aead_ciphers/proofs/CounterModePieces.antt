@@ -1,4 +1,4 @@
--- Bytes encrypted in pieces: what a walk's chunks hold, and the rest.
+-- Counter mode of a text in pieces: its chunks, and the rest after them.
 -- When a message is sealed or opened, its buffer is one list equation, `front ++ drop d was`, and each step replaces a further
 -- part of the front.
 use Rattle.std.proofs.Common.{◌≡◌, ℕ, ◌+◌, ◌-◌, ◌*◌, ◌/◌, ◌%◌, ◌≤◌, List, ◌++◌, length, take, drop, refl, sym, ap, ap₂, ◌∙◌, arith, append-nil, length-append, length-take, length-take-le, length-drop, take_all, take_at, drop_at, append_assoc}
@@ -11,7 +11,7 @@ use proofs.CounterModeLemmas.{EncryptsFirst, counter_byte-later, counter_mode-sh
 use proofs.StreamLemmas.{xored-append}
 use proofs.XorLemmas.{xor_comm, xor_zeros}
 
--- a buffer whose first e bytes were encrypted in place, which are all
+-- a buffer of e bytes is encrypted in place if its first e bytes are
 pub all_encrypted : (cipher : List ℕ → List ℕ) (nonce : List ℕ) (k e : ℕ) (was now : List ℕ) {counter : List ℕ} → e ≡ length was
     → EncryptsFirst cipher counter 0 e was now → IsCounter counter nonce k → now ≡ counter_mode cipher nonce k was
 all_encrypted cipher nonce k e was now all first at =
@@ -20,7 +20,7 @@ all_encrypted cipher nonce k e was now all first at =
     ∙ ap₂ (λ t u. counter_mode cipher nonce k t ++ u) (take_all (length was) was (omega arith)) (drop_all (length was) was (omega arith))
     ∙ append-nil (counter_mode cipher nonce k was)
 
--- n bytes after the first d of an encrypted front
+-- the n bytes after the first d of an encrypted text are n bytes of counter mode of the whole text, from d on
 pub encrypted_piece : (cipher : List ℕ → List ℕ) (nonce : List ℕ) (k d n : ℕ) (text before piece after behind : List ℕ)
     → d + n ≤ length text → length before ≡ d → length piece ≡ n
     → before ++ (piece ++ after) ≡ counter_mode cipher nonce k (take (d + n) text) ++ behind
@@ -33,7 +33,7 @@ encrypted_piece cipher nonce k d n text before piece after behind room ld ln e =
     ∙ ap (drop d) (ap (take (d + n)) e ∙ take_at done behind (d + n) size ∙ sym (take-counter_mode cipher nonce k (d + n) text room))
     ∙ drop-take d n (counter_mode cipher nonce k text)
 
--- the last bytes, those from s on, were encrypted in the front of a buffer of their own, and put to the front
+-- the bytes of xs from s on were encrypted in another buffer, `out`, and copied from its front to the front of xs
 pub put_rest : (cipher : List ℕ → List ℕ) (nonce : List ℕ) (k s : ℕ) (xs input pad last copied : List ℕ) {out : List ℕ}
     → s ≤ length xs → input ≡ drop s xs → out ≡ counter_mode cipher nonce k (input ++ pad) ++ last → copied ≡ take (length xs - s) out
     → copied ++ drop (length xs - s) xs ≡ counter_mode cipher nonce k (drop s xs) ++ drop (length xs - s) xs
@@ -48,7 +48,7 @@ put_rest cipher nonce k s xs input pad last copied within ie oe ce =
     ∙ take-counter_mode cipher nonce k n text fits
     ∙ ap (counter_mode cipher nonce k) (take_at input pad n len ∙ ie))
 
--- counter mode of a block of zeros and a text: the cipher of the counter block, and the text from the next on
+-- counter mode of a zero block and then a text, from block k on: the cipher of counter block k, then the text from block k + 1 on
 pub zeros_and_text : (cipher : List ℕ → List ℕ) (nonce : List ℕ) (k : ℕ) (text : List ℕ) → length (cipher (counter_block nonce k)) ≡ 16
     → counter_mode cipher nonce k (zero_block ++ text) ≡ cipher (counter_block nonce k) ++ counter_mode cipher nonce (k + 1) text
 unfolding counter_mode
@@ -58,8 +58,8 @@ zeros_and_text cipher nonce k text size =
     ∙ ap (λ u. u ++ counter_mode cipher nonce (k + 1) text)
     (sym (counter_mode-short cipher nonce k zero_block mask (omega arith) (omega (arith, size)) refl) ∙ xor_comm zero_block mask ∙ xor_zeros mask 16 size)
 
--- A message after a block of zeros, encrypted from counter block 1 on: first the cipher of that counter block, then the message from
--- block 2 on.
+-- Counter mode of a zero block, a message of n bytes and `pad`, from block 1 on, begins with the cipher of counter block 1, and the
+-- next n bytes are the message from block 2 on.
 pub short_message : (cipher : List ℕ → List ℕ) (nonce : List ℕ) (n : ℕ) (zeros message pad last : List ℕ) {out : List ℕ}
     → length (cipher (counter_block nonce 1)) ≡ 16 → zeros ≡ zero_block → length message ≡ n
     → out ≡ counter_mode cipher nonce 1 (zeros ++ (message ++ pad)) ++ last
@@ -79,14 +79,14 @@ short_message cipher nonce n zeros message pad last size are len e =
           ∙ ap (counter_mode cipher nonce 2) (take_at message pad n len),
     )
 
--- a piece was put in the place of another of its length
+-- a list keeps its length if n items from d on are replaced by as many
 pub put_length : (d n : ℕ) (xs piece : List ℕ) → length piece ≡ length (take n (drop d xs))
     → length (take d xs ++ (piece ++ drop n (drop d xs))) ≡ length xs
 put_length d n xs piece same =
     length-append (take d xs) (piece ++ drop n (drop d xs))
     ∙ omega (arith, same, length-append piece (drop n (drop d xs)), length-take d xs, length-take n (drop d xs), length-drop n (drop d xs), length-drop d xs)
 
--- the blocks that e bytes fill or begin: they have room for the bytes, are whole, and are so many
+-- `size` is e rounded up to whole blocks: it is at least e, a multiple of 16, and (e + 15) / 16 times 16
 pub blocks_room : (e size : ℕ) → size ≡ (e + 15) / 16 * 16 → e ≤ size
 blocks_room e size is = omega arith
 

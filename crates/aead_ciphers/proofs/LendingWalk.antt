@@ -1,7 +1,6 @@
 -- What the walks of the opening calls share. Such a call lends its buffer to a core, and then the plaintext by
 -- `lend_plaintext`.
--- The context has an entry for each token and for what each parameter owns, and is named in this order. Assumes
--- `Logic`.
+-- Brackets name the entries of the context, as the base crate's `Walks` says. Assumes `Logic`.
 --     lent_for              the lifetimes and shares of a call that the buffer is lent to
 --     relends, regains      the buffer is lent to the core for a new lifetime, and is back as `lend_plaintext` wants it
 --     lends                 `lend_plaintext` gave the plaintext
@@ -55,7 +54,7 @@ pub use Rattle.aead_ciphers_base.proofs.Walks.{walked, consults, learns, tell, t
 pub use proofs.NextNonce.{lent_next, call_lent}
 pub use proofs.LentPlaintext.{as_lent, lent_plain, opened_fronts, step_fronts, length-before_tag}
 pub use Rattle.aead_ciphers_base.specs.Values.{aad_bytes}
-pub use specs.Gcm.{Opened, OpenedAttached}
+pub use specs.Gcm.{Opened, OpenedAttached, tag_len}
 pub use Rattle.std.proofs.Common.{arith, length-drop}
 use specs.contracts.aead.lend.lend_plaintext as L
 pub use proofs.aead.lend.lend_plaintext.Met.{met as front_met}

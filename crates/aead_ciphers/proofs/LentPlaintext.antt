@@ -5,17 +5,17 @@ use Rattle.std.proofs.lemmas.List.{drop-append-le}
 use Rattle.aead_ciphers_base.proofs.CounterModeLemmas.{length-counter_mode}
 use Rattle.aead_ciphers.specs
 use specs.BoundState.{BoundState}
-use specs.Gcm.{gcm_decrypted, Opened, OpenedAttached, Opens}
+use specs.Gcm.{gcm_decrypted, tag_len, Opened, OpenedAttached, Opens}
 use specs.Lending.{lent_buffer, Stands}
 use specs.Steps.{OpenStep, no_nonce, opened}
 
--- the result lends the front of the buffer new, of which the answer says the length, and all other bytes are those of old
+-- the result lends the front of the buffer `new`, whose length is the answer; the bytes after it are those of `old`
 pub record Lent {E : Type 0} (m : ℕ) (old new : List ℕ) (answer : Result ℕ E) (result : Result (MutBor (List ℕ)) E) : Type 0 where
   pub accepts : is_ok answer ≡ is_ok result
   pub buffer : new ≡ lent_buffer result old
   pub count : IfOk result (λ part. length part.now ≡ m)
 
--- what was said of the answer and the buffer, of the result and what it lends
+-- what holds of the answer and the buffer holds of the result and the buffer with what it lends
 pub as_lent : {E : Type 0} {m : ℕ} {old new : List ℕ} (P : Bool → List ℕ → Type 0) {answer : Result ℕ E}
     {result : Result (MutBor (List ℕ)) E} → Lent m old new answer result → P (is_ok answer) new
     → P (is_ok result) (lent_buffer result old)
@@ -61,11 +61,11 @@ module _ {cipher : List ℕ → List ℕ} {nonce aad received ciphertext : List 
 
 -- opening what stands before an attached tag opens the buffer
 pub attached : (cipher : List ℕ → List ℕ) (nonce aad : List ℕ) (start : ℕ) (old : List ℕ) (accepts : Bool)
-    (body : List ℕ) → 16 ≤ length old
-    → Opened cipher nonce aad (drop (length old - 16) old) start (take (length old - 16) old) accepts body
-    → OpenedAttached cipher nonce aad start old accepts (body ++ drop (length old - 16) old)
+    (body : List ℕ) → tag_len ≤ length old
+    → Opened cipher nonce aad (drop (length old - tag_len) old) start (take (length old - tag_len) old) accepts body
+    → OpenedAttached cipher nonce aad start old accepts (body ++ drop (length old - tag_len) old)
 attached cipher nonce aad start old accepts body long step =
-    let n = length old - 16 in
+    let n = length old - tag_len in
     let size : length (take n old) ≡ n = length-take-le n old (omega arith) in
     record {
       accepted = (
@@ -76,41 +76,41 @@ attached cipher nonce aad start old accepts body long step =
     }
   where
     text : List ℕ
-    text = drop start (take (length old - 16) old)
+    text = drop start (take (length old - tag_len) old)
 
     plain : List ℕ
     plain = gcm_decrypted cipher nonce text
 
     kept_behind : (accepts : Bool) (body : List ℕ)
-        → body ≡ (if accepts then plain ++ drop (length text) (take (length old - 16) old) else take
-        (length old - 16) old)
-        → body ++ drop (length old - 16) old ≡ (if accepts then plain ++ drop (length text) old else old)
+        → body ≡ (if accepts then plain ++ drop (length text) (take (length old - tag_len) old) else take
+        (length old - tag_len) old)
+        → body ++ drop (length old - tag_len) old ≡ (if accepts then plain ++ drop (length text) old else old)
     kept_behind true body e =
-        ap (λ l. l ++ drop (length old - 16) old) e
-        ∙ append_assoc plain (drop (length text) (take (length old - 16) old)) (drop (length old - 16) old)
+        ap (λ l. l ++ drop (length old - tag_len) old) e
+        ∙ append_assoc plain (drop (length text) (take (length old - tag_len) old)) (drop (length old - tag_len) old)
         ∙ ap (λ l. plain ++ l) (
-        sym (drop-append-le (length text) (take (length old - 16) old) (drop (length old - 16) old) (omega
-        (arith, length-drop start (take (length old - 16) old))))
-        ∙ ap (drop (length text)) (take-append-drop (length old - 16) old)
+        sym (drop-append-le (length text) (take (length old - tag_len) old) (drop (length old - tag_len) old) (omega
+        (arith, length-drop start (take (length old - tag_len) old))))
+        ∙ ap (drop (length text)) (take-append-drop (length old - tag_len) old)
         )
-    kept_behind false body e = ap (λ l. l ++ drop (length old - 16) old) e ∙ take-append-drop (length old - 16) old
+    kept_behind false body e = ap (λ l. l ++ drop (length old - tag_len) old) e ∙ take-append-drop (length old - tag_len) old
 
 -- the length of a ciphertext before its tag
-pub length-before_tag : (start : ℕ) (old : List ℕ) (m : ℕ) → m ≡ length old - 16 - start
-    → length (drop start (take (length old - 16) old)) ≡ m
+pub length-before_tag : (start : ℕ) (old : List ℕ) (m : ℕ) → m ≡ length old - tag_len - start
+    → length (drop start (take (length old - tag_len) old)) ≡ m
 length-before_tag start old m is =
     omega (
       arith,
       is,
-      length-drop start (take (length old - 16) old),
-      length-take-le (length old - 16) old
+      length-drop start (take (length old - tag_len) old),
+      length-take-le (length old - tag_len) old
           (omega arith),
     )
 
--- the same of a step with the next nonce
+-- after a step of a bound key, too, the answer is the length of the plaintext at the front, and the bytes after it are unchanged
 pub step_fronts : {N : Type 0} (spent : N → List (List ℕ)) (is_closed : N
     → Bool) (was now : BoundState N) (aad : List ℕ) (start : ℕ) (old new : List ℕ)
-    {E : Type 0} (m : ℕ) → m ≡ length old - 16 - start → (answer : Result ℕ E)
+    {E : Type 0} (m : ℕ) → m ≡ length old - tag_len - start → (answer : Result ℕ E)
     → OpenStep spent is_closed was now aad start old new (is_ok answer) → IfOk answer (λ n. n ≡ m)
     → Stands m old new answer
 step_fronts _ _ _ _ _ start old new {E = E} m is (Ok n) (opened nonce accepts spends it) count =

@@ -6,7 +6,7 @@ use specs.Bytes.{◌⊕◌}
 use Rattle.aead_ciphers_base.proofs
 use proofs.CounterModeLemmas.{counter_mode-twice, length-counter_mode}
 use proofs.XorLemmas.{length-xor}
-use specs.Gcm.{gcm_tag, gcm_encrypted, gcm_decrypted, gcm_sealed}
+use specs.Gcm.{gcm_tag, gcm_encrypted, gcm_decrypted, gcm_sealed, tag_len}
 use specs.Ghash.{◌•◌, block_of, ghash}
 
 length-product : (x y : List ℕ) → length (x • y) ≡ 16
@@ -21,7 +21,7 @@ unfolding ghash
 length-ghash h [] = refl
 length-ghash h (x ∷ xs) = length-xor_16 _ _ (length-product x _) (length-ghash h xs)
 
-pub length-aes_tag : (key nonce aad ciphertext : List ℕ) → length (gcm_tag (aes key) nonce aad ciphertext) ≡ 16
+pub length-aes_tag : (key nonce aad ciphertext : List ℕ) → length (gcm_tag (aes key) nonce aad ciphertext) ≡ tag_len
 unfolding gcm_tag
 length-aes_tag key nonce aad ciphertext = length-xor_16 _ _ (length-ghash _ _) (length_aes key _)
 
@@ -31,7 +31,7 @@ length-aes_encrypted key nonce message = length-counter_mode _ nonce 2 message
 pub length-aes_decrypted : (key nonce ciphertext : List ℕ) → length (gcm_decrypted (aes key) nonce ciphertext) ≡ length ciphertext
 length-aes_decrypted key nonce ciphertext = length-counter_mode _ nonce 2 ciphertext
 
-pub length-aes_sealed : (key nonce aad message : List ℕ) → length (gcm_sealed (aes key) nonce aad message) ≡ length message + 16
+pub length-aes_sealed : (key nonce aad message : List ℕ) → length (gcm_sealed (aes key) nonce aad message) ≡ length message + tag_len
 length-aes_sealed key nonce aad message =
     length-append (gcm_encrypted (aes key) nonce message) (gcm_tag (aes key) nonce aad _)
     ∙ ap₂ (λ m n. m + n) (length-aes_encrypted key nonce message) (length-aes_tag key nonce aad _)

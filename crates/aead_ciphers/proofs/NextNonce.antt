@@ -3,7 +3,7 @@ use Rattle.std.proofs.Common.{◌≡◌, ℕ, ◌-◌, Bool, IsErr, List, length
 use Rattle.std.specs.Borrow.{MutBor}
 use Rattle.aead_ciphers.specs
 use specs.Aes.{aes}
-use specs.Gcm.{gcm_decrypted, OpenedAttached}
+use specs.Gcm.{gcm_decrypted, tag_len, OpenedAttached}
 use specs.BoundCalls.{OpeningCall}
 use specs.BoundState.{BoundState}
 use specs.Lending.{lent_buffer}
@@ -14,11 +14,11 @@ use Rattle.aead_ciphers.proofs.LentPlaintext.{length-before_tag, stands, front_o
 -- the plaintext under the nonce that was given is that under the next one
 pub plaintext_next : {E : Type 0} (is_next : List ℕ → Type 0) (key nonce aad : List ℕ) (start : ℕ) (old new : List ℕ) (answer : Result ℕ E)
     → UnderNext is_next (λ next. nonce ≡ next) → OpenedAttached (aes key) nonce aad start old (is_ok answer) new
-    → IfOk answer (λ n. n ≡ length old - 16 - start)
+    → IfOk answer (λ n. n ≡ length old - tag_len - start)
     → OnOk answer (UnderNext is_next
-    (λ next. take (length old - 16 - start) new ≡ gcm_decrypted (aes key) next (drop start (take (length old - 16) old))))
+    (λ next. take (length old - tag_len - start) new ≡ gcm_decrypted (aes key) next (drop start (take (length old - tag_len) old))))
 plaintext_next is_next key nonce aad start old new (Ok n) is opened count = λ next given.
-    subst (λ x. take (length old - 16 - start) new ≡ gcm_decrypted (aes key) x (drop start (take (length old - 16) old))) (is next given)
+    subst (λ x. take (length old - tag_len - start) new ≡ gcm_decrypted (aes key) x (drop start (take (length old - tag_len) old))) (is next given)
     (stands (length-before_tag start old _ refl) opened)
 plaintext_next is_next key nonce aad start old new (Err e) is opened count = tt
 
@@ -29,7 +29,7 @@ pub no_nonce_open : {N X E : Type 0} (spent : N → List (List ℕ)) (is_closed 
 no_nonce_open _ _ _ _ _ _ _ _ (Ok x) is closes e = absurd (let no = is in cc)
 no_nonce_open _ _ _ _ _ _ _ _ (Err x) is closes e = no_nonce closes e
 
--- what a call says whose answer is a length, of one that lends the plaintext
+-- what the contract of a call that returns a length says of its answer also holds of a result that lends the plaintext
 module _ {N E : Type 0} (spent : N → List (List ℕ)) (is_closed : N → Bool) (origin : N → List ℕ) (gives refuses : N → N → Type 0)
     (is_next : N → List ℕ → Type 0) (was now : BoundState N) (aad : List ℕ) (start : ℕ) (old : List ℕ) where
   abbrev Call : List ℕ → {X : Type 0} → Result X E → Type 0

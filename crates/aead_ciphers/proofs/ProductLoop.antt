@@ -14,11 +14,11 @@ use Rattle.aead_ciphers.proofs.GhashBits.{coefficients, length-bits, coefficient
 pub block_low : AllBelow 128 block_taps
 block_low = (lit< tt, (lit< tt, (lit< tt, (lit< tt, tt))))
 
--- the code's R
+-- the constant `R` of `product`
 abbrev pub reduction : ℕ
 reduction = 0xe1000000000000000000000000000000
 
--- the code's next multiple
+-- the next multiple, as `write_multiples` computes it
 abbrev pub next_multiple : ℕ → ℕ
 next_multiple v = bit_xor (v / 2) (bit_and reduction (mask 128 (bit_and v 1)))
 
@@ -50,7 +50,7 @@ reduction_is = ap coefficient reduction_bits ∙ same_series go
 shifted : (q : List Bool) → coefficient (false ∷ q) ≡ shift (coefficient q)
 shifted q = same_steps _ _ refl (λ k. refl)
 
--- the code's next multiple is x times the multiple
+-- the next multiple is x times the multiple
 pub multiple_is : (v : ℕ) → v < 2 ^ 128 → coefficients 128 (next_multiple v) ≡ mul_x 127 (modulus block_taps 128) (coefficients 128 v)
 multiple_is v below =
     let lowest = and_mask v 1 ∙ sym (bit_at_lowest v) in

@@ -14,7 +14,7 @@ use proofs.GhashBlocks.{to_be_bytes-xor}
 use proofs.GhashLaws.{AllSized-append, ghash_more}
 use proofs.PaddedBlocks.{blocks-append, padded_blocks-append, padded_blocks_none}
 
--- one block more, as the code takes it in: h, xi and the block are the bytes of the numbers
+-- one block more, as the code hashes it: h, xi and `block` are the bytes of the numbers `key`, `sum` and `number`
 pub hash_one : (h xi block : List ℕ) (key sum number next : ℕ) (done : List (List ℕ))
     → to_be_bytes w128 key ≡ h → to_be_bytes w128 sum ≡ xi → to_be_bytes w128 number ≡ block
     → to_be_bytes w128 next ≡ to_be_bytes w128 (bit_xor sum number) • to_be_bytes w128 key
@@ -29,7 +29,7 @@ hash_one h xi block key sum number next done is_h is_xi is_block is_next at =
           ∙ sym (is_next ∙ ap₂ (λ x y. x • y) (to_be_bytes-xor sum number ∙ ap₂ (λ x y. x ⊕ y) (is_xi ∙ sym at.value) is_block) is_h);
     }
 
--- some list before them has the hash, and it and the blocks that are left are all of them
+-- `all` is a list of blocks whose hash is xi, followed by the blocks that are left
 abbrev pub HashedFront : List ℕ → List (List ℕ) → List (List ℕ) → List ℕ → Type 0
 HashedFront h left all xi = (front : List (List ℕ)) × (front ++ left ≡ all) × IsHashOf h front xi
 
@@ -41,20 +41,20 @@ front_more h block left rest all xi xi' e step at = (
   step at.0 at.2,
 )
 
--- what a step takes in under one name of the subkey it does under another
+-- a step under h hashes the same blocks as under h', if the two are equal
 pub hash_with : {h h' : List ℕ} {bs bs' more : List (List ℕ)} {xi xi' : List ℕ} → h' ≡ h → bs ++ more ≡ bs'
     → ((done : List (List ℕ)) → IsHashOf h' done xi → IsHashOf h' (done ++ more) xi') → IsHashOf h bs xi → IsHashOf h bs' xi'
 hash_with {bs = bs} {more = more} {xi} {xi'} e eb step start =
     rw (← eb) (subst (λ h. IsHashOf h (bs ++ more) xi') e (step bs (subst (λ h. IsHashOf h bs xi) (sym e) start)))
 
--- a hash that took in nothing
+-- a hash absorbs no bytes by staying as it is
 pub absorbs_none : (s : HashState) → Absorbs s [] s
 absorbs_none s = record {
   kept = refl;
   hashed = λ done at. subst (λ bs. IsHashOf s.hash_subkey bs s.xi) (sym (ap (λ bs. done ++ bs) (padded_blocks_none [] refl) ∙ append-nil done)) at;
 }
 
--- the first d bytes of a text were taken in, which are whole blocks, and n more
+-- a hash that absorbs the first d bytes of a text, which are whole blocks, and then the next n, absorbs the first d + n
 pub absorbs_more : {s t u : HashState} {part : List ℕ} (text : List ℕ) (d n : ℕ) → d % 16 ≡ 0 → d + n ≤ length text → part ≡ take n (drop d text)
     → Absorbs s (take d text) t → Absorbs t part u → Absorbs s (take (d + n) text) u
 absorbs_more {u = u} {part} text d n whole room is first then =
@@ -69,7 +69,7 @@ absorbs_more {u = u} {part} text d n whole room is first then =
           then.hashed (first.hashed done at);
     }
 
--- the whole blocks of bytes, and the rest
+-- the blocks of the input are its whole blocks, and then those of the rest
 pub whole_and_rest : (bs : List (List ℕ)) (input whole rest : List ℕ)
     → whole ≡ take (length input / 16 * 16) input → rest ≡ drop (length input / 16 * 16) input
     → bs ++ blocks 16 whole ++ padded_blocks rest ≡ bs ++ padded_blocks input
@@ -81,7 +81,7 @@ whole_and_rest bs input whole rest we re =
     ∙ append_assoc bs (blocks 16 (take w input)) (padded_blocks (drop w input))
     ∙ ap (λ u. bs ++ u) (sym (blocks-append q (take w input) (drop w input) size) ∙ ap padded_blocks (take-append-drop w input))
 
--- what ends a hash of an AAD and a ciphertext returns the tag
+-- the hash of an AAD and a ciphertext, ended by the block of their lengths and XORed with the mask, is the tag
 pub tag_found : (cipher : List ℕ → List ℕ) (nonce aad text : List ℕ) {mask result : List ℕ} {started ended : HashState}
     → started.hash_subkey ≡ cipher zero_block → started.aad_len ≡ length aad → started.in_out_len ≡ length text → mask ≡ cipher (counter_block nonce 1)
     → IsHashOf started.hash_subkey (padded_blocks aad) started.xi → Absorbs started text ended
@@ -98,6 +98,6 @@ tag_found cipher nonce aad text {mask} {ended = ended} eh ea en em start absorbe
     ∙ ap₂ (λ k b. ghash k (bs ++ b ∷ []) ⊕ mask) (same_key ∙ eh) lengths
     ∙ ap (λ m. ghash (cipher zero_block) (bs ++ length_block (length aad) (length text) ∷ []) ⊕ m) em
 
--- a part that ends where the buffer does
+-- length xs - a items from a on are all from a on
 pub to_end : (a : ℕ) (xs : List ℕ) → take (length xs - a) (drop a xs) ≡ drop a xs
 to_end a xs = take_all (length xs - a) (drop a xs) (omega (arith, length-drop a xs))

@@ -1,20 +1,20 @@
--- The cases of a sealing call.
+-- The cases of a call that seals under the next nonce of a sequence.
 use Rattle.std.proofs.Common.{◌≡◌, ℕ, ◌+◌, ◌-◌, ◌↔◌, ◌++◌, List, Bool, length, take, replicate, is_ok, IsOk, IsErr, IfOk, OnOk, OnErr, Ok, Err, Result, refl, subst, arith, length-append}
 use Rattle.std.proofs.Math.Seq.{take-append_seam}
 use Rattle.aead_ciphers.specs
 use specs.Aes.{aes}
 use specs.BoundState.{BoundState}
-use specs.Gcm.{Fits, gcm_encrypted, gcm_tag, gcm_sealed}
+use specs.Gcm.{Fits, gcm_encrypted, gcm_tag, gcm_sealed, tag_len}
 use specs.NonceSequence.{Closes, UnderNext}
 use specs.Steps.{SealStep, no_room, no_nonce, too_long, sealed, Spends, with_tag}
 
-pub grown_less : (xs : List ℕ) → length (xs ++ replicate 16 0) - 16 ≡ length xs
-grown_less xs = omega (arith, length-append xs (replicate 16 0))
+pub grown_less : (xs : List ℕ) → length (xs ++ replicate tag_len 0) - tag_len ≡ length xs
+grown_less xs = omega (arith, length-append xs (replicate tag_len 0))
 
-pub grown_more : (xs : List ℕ) → length (xs ++ replicate 16 0) ≡ length xs + 16
+pub grown_more : (xs : List ℕ) → length (xs ++ replicate tag_len 0) ≡ length xs + tag_len
 grown_more xs = length-append xs _
 
-pub grown_front : (xs : List ℕ) → take (length (xs ++ replicate 16 0) - 16) (xs ++ replicate 16 0) ≡ xs
+pub grown_front : (xs : List ℕ) → take (length (xs ++ replicate tag_len 0) - tag_len) (xs ++ replicate tag_len 0) ≡ xs
 grown_front xs = rw (grown_less xs) (take-append_seam xs _)
 
 -- a fact holds in each case of a result
@@ -59,7 +59,7 @@ module _ {N : Type 0} (spent : N → List (List ℕ)) (is_closed : N → Bool) (
   spent_step now nonce new (Err e) g spends accepted ok err =
       too_long g nonce spends (λ fits. let no = accepted.1 fits in cc) err
 
-  -- the same where the tag stands apart
+  -- a sealing that spent its nonce, where the tag stands apart
   pub separate_step : {E : Type 0} (now : BoundState N) (nonce new : List ℕ) (r : Result (List ℕ) E) → grant → Spends spent is_closed was now nonce
       → (IsOk r ↔ Fits (length aad) (length old)) → OnOk r (new ≡ gcm_encrypted (aes was.key.bytes) nonce old)
       → IfOk r (λ tag. tag ≡ gcm_tag (aes was.key.bytes) nonce aad new) → OnErr r (new ≡ old)

@@ -5,13 +5,14 @@ use specs.CounterMode.{Advances, EncryptsToFront, IsCounter, counter_mode}
 use specs.Work.{Adds, CanAdd, Tallies}
 use Rattle.aead_ciphers_base.proofs.CounterModeLemmas.{EncryptsFirst, Walked, length-counter_mode, walked_on, walked_more}
 use Rattle.aead_ciphers.specs.Gcm.{sealing_blocks, sealing_products}
+use Rattle.aead_ciphers.specs.declared.aes_gcm.counter_mode.TheConstants.{CHUNK_LEN}
 use Rattle.aead_ciphers.specs.HashOf.{Absorbs, HashState}
 use Rattle.aead_ciphers.proofs
 use proofs.CounterModePieces.{encrypted_piece}
 use proofs.RunningHash.{absorbs_more}
 
--- a chunk of whole blocks, of at most 192, ends where they do or before
-pub chunk_whole : (whole d n : ℕ) → n ≡ min (whole - d) 3072 → d ≤ whole → whole % 16 ≡ 0 → d % 16 ≡ 0 → (n % 16 ≡ 0) × (d + n ≤ whole)
+-- a chunk of whole blocks ends where they do or before
+pub chunk_whole : (whole d n : ℕ) → n ≡ min (whole - d) CHUNK_LEN → d ≤ whole → whole % 16 ≡ 0 → d % 16 ≡ 0 → (n % 16 ≡ 0) × (d + n ≤ whole)
 chunk_whole whole d n is within even begin = (omega arith, omega arith)
 
 -- the n bytes from d on
@@ -76,7 +77,7 @@ rest_encrypted {cipher} {begun} done d was xs rest below above within walk front
 pub walk_whole : (done d n e : ℕ) → done ≤ d → d ≤ done → d ≤ e → n ≤ d → n ≡ e → done ≡ e
 walk_whole done d n e below above within none same = omega arith
 
--- the hash took in the first bytes of the ciphertext, and n more
+-- the hash absorbed the first d bytes of the ciphertext, and absorbs n more
 pub hashed_piece : (cipher : List ℕ → List ℕ) {s t u : HashState} {begun : List ℕ} (nonce : List ℕ) (k d n e : ℕ) (was xs piece behind : List ℕ)
     → d % 16 ≡ 0 → d + n ≡ e → e ≤ length was → length xs ≡ length was → length piece ≡ n
     → EncryptsFirst cipher begun 0 e was (take d xs ++ (piece ++ behind)) → IsCounter begun nonce k
@@ -89,7 +90,7 @@ hashed_piece cipher {s} {t} {u} nonce k d n e was xs piece behind begin sum room
     (first nonce k at ∙ ap (λ e. counter_mode cipher nonce k (take e was) ++ drop e was) (sym sum)))
     before then)
 
--- the hash took in the whole ciphertext: the whole blocks were all of it, or it took in the rest too
+-- the hash absorbed the whole ciphertext: either the whole blocks were all of it, or the hash absorbed the rest too
 pub hashed_whole : (cipher : List ℕ → List ℕ) {s t : HashState} (nonce : List ℕ) (k done : ℕ) (was : List ℕ) → done ≡ length was
     → Absorbs s (take done (counter_mode cipher nonce k was)) t → Absorbs s (counter_mode cipher nonce k was) t
 hashed_whole cipher {s} {t} nonce k done was all taken =

@@ -7,6 +7,10 @@ use Rattle.aead_ciphers_base.specs.CounterMode.{counter_block, counter_mode}
 use Rattle.aead_ciphers_base.specs.Work.{Adds, CanAdd, Tallies}
 use Rattle.aead_ciphers.specs.Ghash.{ghash}
 
+-- the length of a tag in bytes: 128 bits, the longest that the standard allows (section 5.2.1.2)
+abbrev pub tag_len : ℕ
+tag_len = 16
+
 -- the 16 bytes from byte 16 i on, with zeros past the end (section 7.1 step 4)
 unfoldable pub padded_block : List ℕ → ℕ → List ℕ
 padded_block bytes i = each_below 16 (λ j. slice_index bytes (16 * i + j))
@@ -63,12 +67,12 @@ module _ (cipher : List ℕ → List ℕ) (nonce aad : List ℕ) where
   abbrev pub Opened : List ℕ → ℕ → List ℕ → Bool → List ℕ → Type 0
   Opened tag start old accepts new = Opens tag (drop start old) (start ≤ length old) old accepts new
 
-  -- the tag is the last 16 bytes of the buffer and is unchanged, and the ciphertext is before it, from `start` on; a buffer
-  -- of less than 16 bytes, of which n would be 0, is never in range
+  -- the tag is the end of the buffer and is unchanged, and the ciphertext is before it, from `start` on; a buffer that is
+  -- shorter than a tag, of which n would be 0, is never in range
   abbrev pub OpenedAttached : ℕ → List ℕ → Bool → List ℕ → Type 0
   OpenedAttached start old accepts new =
-      let n = length old - 16 in
-      Opens (drop n old) (drop start (take n old)) (start + 16 ≤ length old) old accepts new
+      let n = length old - tag_len in
+      Opens (drop n old) (drop start (take n old)) (start + tag_len ≤ length old) old accepts new
 
 -- the cipher blocks of sealing n bytes of plaintext, or of opening them with success: one for each block of the
 -- plaintext, and one for the tag (section 7.1 steps 3 and 6)

@@ -1,4 +1,4 @@
--- Laws of the definitions.
+-- The law that opening undoes sealing, and lists that are compared item by item.
 use Rattle.std.specs.Prelude.{◌≡◌, ℕ, Bool, true, List, Some, slice_get}
 use Rattle.aead_ciphers_base.specs.Aes.{aes}
 use Rattle.aead_ciphers.specs.Gcm.{gcm_encrypted, gcm_tag, Opened}

@@ -11,10 +11,14 @@ monomial_block k = block_of (replicate k false ++ true ∷ replicate (127 - k) f
 abbrev pub number_of_words : List ℕ → ℕ
 number_of_words words = fold (λ n word. n * 2 ^ 32 + word) 0 words
 
--- Entry k of a table of 128. Its four words are 128 places apart, and corresponding words of the entries i, 32 + i,
--- 64 + i and 96 + i are adjacent.
+-- where a table of 128 entries has the first word of entry k: corresponding words of the entries i, 32 + i, 64 + i and 96 + i
+-- are adjacent
+abbrev pub place : ℕ → ℕ
+place k = 4 * (k % 32) + k / 32
+
+-- entry k of a table of 128, whose four words are 128 places apart
 abbrev pub entry : List ℕ → ℕ → ℕ
-entry table k = number_of_words (map (λ word. slice_index table (128 * word + 4 * (k % 32) + k / 32)) (0 ∷ 1 ∷ 2 ∷ 3 ∷ []))
+entry table k = number_of_words (map (λ word. slice_index table (128 * word + place k)) (0 ∷ 1 ∷ 2 ∷ 3 ∷ []))
 
 -- the bytes of each entry k of the table are the product of u^k and the block h
 abbrev pub AreMultiples : List ℕ → List ℕ → Type 0

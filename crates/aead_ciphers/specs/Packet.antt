@@ -1,16 +1,16 @@
--- A packet that is sealed or opened in place: a header, then the plaintext or ciphertext, then 16 bytes for the tag.
+-- A packet that is sealed or opened in place: a header, then the plaintext or ciphertext, then the tag or room for it.
 use Rattle.std.specs.Prelude.{◌≡◌, ℕ, Bool, ◌+◌, ◌-◌, ◌≤◌, List, ◌++◌, length, take, drop}
 use Rattle.aead_ciphers_base.specs.Aes.{aes}
-use Rattle.aead_ciphers.specs.Gcm.{Fits, gcm_sealed, OpenedAttached}
+use Rattle.aead_ciphers.specs.Gcm.{Fits, gcm_sealed, OpenedAttached, tag_len}
 
 -- n bytes have room for a header of h bytes and a tag, and the lengths of header and plaintext are within the limits
 pub record PacketFits (h n : ℕ) : Type 0 where
-  pub room : h + 16 ≤ n
-  pub lengths : Fits h (n - 16 - h)
+  pub room : h + tag_len ≤ n
+  pub lengths : Fits h (n - tag_len - h)
 
 -- the bytes between the header and the tag
 abbrev pub packet_message : ℕ → List ℕ → List ℕ
-packet_message h packet = take (length packet - 16 - h) (drop h packet)
+packet_message h packet = take (length packet - tag_len - h) (drop h packet)
 
 -- the sealed packet: its header, which is the AAD, then the ciphertext and the tag (SP 800-38D section 7.1)
 abbrev pub sealed_packet : (key nonce : List ℕ) → ℕ → List ℕ → List ℕ

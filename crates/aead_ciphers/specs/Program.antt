@@ -1,4 +1,4 @@
--- What the program keeps from line to line.
+-- What `aeadrun` keeps from line to line.
 use Rattle.std.specs.Prelude.{ℕ, List}
 use Rattle.aead_ciphers.specs.BoundState.{BoundState}
 use Rattle.aead_ciphers.specs.Counting.{Counting}

@@ -2,6 +2,7 @@
 
 ghost use Rattle.std.specs.Prelude.{◌≡◌, ◌↔◌, length, IsOk, IfOk};
 ghost use Rattle.aead_ciphers_base.specs.KeyBytes.{key_bytes};
+ghost use Rattle.aead_ciphers.specs.Gcm.{tag_len};
 
 use aead_ciphers_base::aes::{AES_128_KEY_LEN, AES_256_KEY_LEN, KeyBytes};
 use aead_ciphers_base::error::Unspecified;
@@ -47,7 +48,7 @@ impl Algorithm {
 
     /// Returns the length of a tag in bytes, which is 16.
     pub fn tag_len(&self) -> usize
-        ensures { result ≡ 16 }
+        ensures { result ≡ tag_len }
     {
         MAX_TAG_LEN
     }

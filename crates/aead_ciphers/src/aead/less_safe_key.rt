@@ -1,4 +1,4 @@
-//! The key whose calls take the nonce as an argument.
+//! The AEAD key whose calls take the nonce as an argument.
 
 ghost use Rattle.std.specs.Prelude.{◌≡◌, ◌+◌, ◌-◌, ◌≤◌, ◌↔◌, length, drop, take, is_ok, IsOk, IfOk, OnOk, OnErr};
 ghost use Rattle.std.specs.Borrow.{sem};
@@ -6,7 +6,7 @@ ghost use Rattle.aead_ciphers_base.specs.Values.{aad_bytes};
 ghost use Rattle.aead_ciphers_base.specs.Aes.{aes};
 ghost use Rattle.aead_ciphers.specs.Algorithm.{key_len};
 ghost use Rattle.aead_ciphers.specs.Packet.{PacketFits, sealed_packet, OpenedPacket};
-ghost use Rattle.aead_ciphers.specs.Gcm.{Fits, gcm_encrypted, gcm_decrypted, gcm_tag, gcm_sealed, Opened, OpenedAttached};
+ghost use Rattle.aead_ciphers.specs.Gcm.{Fits, gcm_encrypted, gcm_decrypted, gcm_tag, gcm_sealed, tag_len, Opened, OpenedAttached};
 ghost use Rattle.aead_ciphers.specs.Lending.{LendsFront, lent_buffer};
 
 use crate::aead::algorithm::Algorithm;
@@ -157,7 +157,7 @@ impl<K: GcmKey> LessSafeKey<K> {
         ensures sealed { OnOk result (B.bytes in_out.new
             ≡ gcm_sealed (aes self.now.bytes) nonce (aad_bytes aad.entry) (B.bytes in_out.old)) }
         ensures refused { OnErr result (B.bytes in_out.new ≡ B.bytes in_out.old) }
-        ensures length { OnOk result (length (B.bytes in_out.new) ≡ length (B.bytes in_out.old) + 16) }
+        ensures length { OnOk result (length (B.bytes in_out.new) ≡ length (B.bytes in_out.old) + tag_len) }
         ensures granted { IsOk result → B.may_grant in_out.old }
         ensures fits { IsOk result → Fits (length (aad_bytes aad.entry)) (length (B.bytes in_out.old)) }
         ensures refuses { OnErr result (Fits (length (aad_bytes aad.entry)) (length (B.bytes in_out.old))
@@ -175,12 +175,12 @@ impl<K: GcmKey> LessSafeKey<K> {
         aad: Aad<'_>,
         in_out: &mut B,
     ) -> Result<(), Unspecified>
-        requires { 16 ≤ length (B.bytes in_out.old) }
-        ensures accepted { IsOk result ↔ Fits (length (aad_bytes aad.entry)) (length (B.bytes in_out.old) - 16) }
-        ensures sealed { let message = take (length (B.bytes in_out.old) - 16) (B.bytes in_out.old) in
+        requires { tag_len ≤ length (B.bytes in_out.old) }
+        ensures accepted { IsOk result ↔ Fits (length (aad_bytes aad.entry)) (length (B.bytes in_out.old) - tag_len) }
+        ensures sealed { let message = take (length (B.bytes in_out.old) - tag_len) (B.bytes in_out.old) in
             OnOk result (B.bytes in_out.new ≡ gcm_sealed (aes self.now.bytes) nonce (aad_bytes aad.entry) message) }
         ensures length { OnOk result (length (B.bytes in_out.new) ≡ length (B.bytes in_out.old)) }
-        ensures kept { let message = take (length (B.bytes in_out.old) - 16) (B.bytes in_out.old) in
+        ensures kept { let message = take (length (B.bytes in_out.old) - tag_len) (B.bytes in_out.old) in
             OnErr result (B.bytes in_out.new ≡ message) }
     {
         let bytes = in_out.as_mut_bytes();
@@ -295,12 +295,12 @@ impl<K: GcmKey> LessSafeKey<K> {
         in_out: &'a mut [u8],
         ciphertext_and_tag: RangeFrom<usize>,
     ) -> Result<&'a mut [u8], Unspecified>
-        ensures* writes_back { sem 𝓛 (LendsFront in_out.entry result (length in_out.old - 16 - ciphertext_and_tag.start)) }
+        ensures* writes_back { sem 𝓛 (LendsFront in_out.entry result (length in_out.old - tag_len - ciphertext_and_tag.start)) }
         ensures opened { OpenedAttached (aes self.now.bytes) nonce (aad_bytes aad.entry) ciphertext_and_tag.start
             in_out.old (is_ok result) (lent_buffer result in_out.old) }
         ensures plaintext { IfOk result (λ plaintext. plaintext.now
             ≡ gcm_decrypted (aes self.now.bytes) nonce
-            (drop ciphertext_and_tag.start (take (length in_out.old - 16) in_out.old))) }
+            (drop ciphertext_and_tag.start (take (length in_out.old - tag_len) in_out.old))) }
     {
         let opened = self.open_within_to_front(nonce, aad, in_out, ciphertext_and_tag);
         lend_plaintext(in_out, opened)
@@ -317,7 +317,7 @@ impl<K: GcmKey> LessSafeKey<K> {
     ) -> Result<usize, Unspecified>
         ensures opened { OpenedAttached (aes self.now.bytes) nonce (aad_bytes aad.entry) ciphertext_and_tag.start
             in_out.old (is_ok result) in_out.new }
-        ensures count { IfOk result (λ n. n ≡ length in_out.old - 16 - ciphertext_and_tag.start) }
+        ensures count { IfOk result (λ n. n ≡ length in_out.old - tag_len - ciphertext_and_tag.start) }
         ensures refused { OnErr result (in_out.new ≡ in_out.old) }
     {
         let (before_tag, tag) = in_out
@@ -341,11 +341,11 @@ impl<K: GcmKey> LessSafeKey<K> {
         aad: Aad<'_>,
         in_out: &'a mut [u8],
     ) -> Result<&'a mut [u8], Unspecified>
-        ensures* writes_back { sem 𝓛 (LendsFront in_out.entry result (length in_out.old - 16)) }
+        ensures* writes_back { sem 𝓛 (LendsFront in_out.entry result (length in_out.old - tag_len)) }
         ensures opened { OpenedAttached (aes self.now.bytes) nonce (aad_bytes aad.entry) 0
             in_out.old (is_ok result) (lent_buffer result in_out.old) }
         ensures plaintext { IfOk result (λ plaintext. plaintext.now
-            ≡ gcm_decrypted (aes self.now.bytes) nonce (take (length in_out.old - 16) in_out.old)) }
+            ≡ gcm_decrypted (aes self.now.bytes) nonce (take (length in_out.old - tag_len) in_out.old)) }
     {
         let opened = self.open_in_place_to_front(nonce, aad, in_out);
         lend_plaintext(in_out, opened)
@@ -361,7 +361,7 @@ impl<K: GcmKey> LessSafeKey<K> {
     ) -> Result<usize, Unspecified>
         ensures opened { OpenedAttached (aes self.now.bytes) nonce (aad_bytes aad.entry) 0
             in_out.old (is_ok result) in_out.new }
-        ensures count { IfOk result (λ n. n ≡ length in_out.old - 16) }
+        ensures count { IfOk result (λ n. n ≡ length in_out.old - tag_len) }
         ensures refused { OnErr result (in_out.new ≡ in_out.old) }
     {
         self.open_within_to_front(nonce, aad, in_out, 0..)
@@ -407,7 +407,7 @@ impl<K: GcmKey> LessSafeKey<K> {
         header_len: usize,
     ) -> Result<usize, Unspecified>
         ensures opened { OpenedPacket self.now.bytes nonce header_len packet.old (is_ok result) packet.new }
-        ensures count { IfOk result (λ n. n ≡ length packet.old - 16 - header_len) }
+        ensures count { IfOk result (λ n. n ≡ length packet.old - tag_len - header_len) }
         ensures refused { OnErr result (packet.new ≡ packet.old) }
     {
         let Some((header, body)) = packet.split_at_mut_checked(header_len) else {

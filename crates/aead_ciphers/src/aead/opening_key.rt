@@ -1,10 +1,10 @@
-//! The key that opens under the nonces of a sequence.
+//! The AEAD key that opens messages under the nonces of a sequence.
 ghost use Rattle.std.specs.Prelude.{◌≡◌, ◌-◌, length, drop, take, IfOk};
 ghost use Rattle.std.specs.Borrow.{sem};
 ghost use Rattle.aead_ciphers_base.specs.Values.{aad_bytes};
 ghost use Rattle.aead_ciphers_base.specs.Aes.{aes};
 ghost use Rattle.aead_ciphers.specs.BoundCalls.{OpeningCall};
-ghost use Rattle.aead_ciphers.specs.Gcm.{gcm_decrypted};
+ghost use Rattle.aead_ciphers.specs.Gcm.{gcm_decrypted, tag_len};
 ghost use Rattle.aead_ciphers.specs.Lending.{LendsFront, lent_buffer};
 ghost use Rattle.aead_ciphers.specs.NonceSequence.{UnderNext};
 
@@ -88,7 +88,7 @@ impl<K: GcmKey, N: NonceSequence> OpeningKey<K, N> {
     ) -> Result<usize, Unspecified>
         ensures call { OpeningCall N.spent N.is_closed N.origin N.gives N.refuses N.is_next self.old self.new
             (aad_bytes aad.entry) ciphertext_and_tag.start in_out.old in_out.new result }
-        ensures count { IfOk result (λ n. n ≡ length in_out.old - 16 - ciphertext_and_tag.start) }
+        ensures count { IfOk result (λ n. n ≡ length in_out.old - tag_len - ciphertext_and_tag.start) }
     {
         let nonce = self.nonce_sequence.advance()?;
         self.key
@@ -104,7 +104,7 @@ impl<K: GcmKey, N: NonceSequence> OpeningKey<K, N> {
     ) -> Result<usize, Unspecified>
         ensures call { OpeningCall N.spent N.is_closed N.origin N.gives N.refuses N.is_next self.old self.new
             (aad_bytes aad.entry) 0 in_out.old in_out.new result }
-        ensures count { IfOk result (λ n. n ≡ length in_out.old - 16) }
+        ensures count { IfOk result (λ n. n ≡ length in_out.old - tag_len) }
     {
         self.open_within_to_front(aad, in_out, 0..)
     }
@@ -128,14 +128,14 @@ impl<K: GcmKey, N: NonceSequence> OpeningKey<K, N> {
         ciphertext_and_tag: RangeFrom<usize>,
     ) -> Result<&'a mut [u8], Unspecified>
         ensures* writes_back { sem 𝓛 (LendsFront in_out.entry result
-            (length in_out.old - 16 - ciphertext_and_tag.start)) }
+            (length in_out.old - tag_len - ciphertext_and_tag.start)) }
         ensures call { OpeningCall N.spent N.is_closed N.origin N.gives N.refuses N.is_next self.old self.new
             (aad_bytes aad.entry) ciphertext_and_tag.start in_out.old (lent_buffer result in_out.old) result }
         ensures count { IfOk result (λ plaintext.
-            length plaintext.now ≡ length in_out.old - 16 - ciphertext_and_tag.start) }
+            length plaintext.now ≡ length in_out.old - tag_len - ciphertext_and_tag.start) }
         ensures plaintext { IfOk result (λ plaintext. UnderNext (N.is_next self.old.sequence) (λ nonce. plaintext.now
             ≡ gcm_decrypted (aes self.old.key.bytes) nonce
-            (drop ciphertext_and_tag.start (take (length in_out.old - 16) in_out.old)))) }
+            (drop ciphertext_and_tag.start (take (length in_out.old - tag_len) in_out.old)))) }
     {
         let opened = self.open_within_to_front(aad, in_out, ciphertext_and_tag);
         lend_plaintext(in_out, opened)
@@ -147,12 +147,12 @@ impl<K: GcmKey, N: NonceSequence> OpeningKey<K, N> {
         aad: Aad<'_>,
         in_out: &'a mut [u8],
     ) -> Result<&'a mut [u8], Unspecified>
-        ensures* writes_back { sem 𝓛 (LendsFront in_out.entry result (length in_out.old - 16)) }
+        ensures* writes_back { sem 𝓛 (LendsFront in_out.entry result (length in_out.old - tag_len)) }
         ensures call { OpeningCall N.spent N.is_closed N.origin N.gives N.refuses N.is_next self.old self.new
             (aad_bytes aad.entry) 0 in_out.old (lent_buffer result in_out.old) result }
-        ensures count { IfOk result (λ plaintext. length plaintext.now ≡ length in_out.old - 16) }
+        ensures count { IfOk result (λ plaintext. length plaintext.now ≡ length in_out.old - tag_len) }
         ensures plaintext { IfOk result (λ plaintext. UnderNext (N.is_next self.old.sequence) (λ nonce.
-            plaintext.now ≡ gcm_decrypted (aes self.old.key.bytes) nonce (take (length in_out.old - 16) in_out.old))) }
+            plaintext.now ≡ gcm_decrypted (aes self.old.key.bytes) nonce (take (length in_out.old - tag_len) in_out.old))) }
     {
         let opened = self.open_in_place_to_front(aad, in_out);
         lend_plaintext(in_out, opened)

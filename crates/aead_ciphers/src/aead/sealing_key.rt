@@ -1,9 +1,9 @@
-//! The key that seals under the nonces of a sequence.
+//! The AEAD key that seals messages under the nonces of a sequence.
 ghost use Rattle.std.specs.Prelude.{◌≡◌, ◌+◌, ⊤, length, IfOk, OnOk, OnErr};
 ghost use Rattle.aead_ciphers_base.specs.Values.{aad_bytes};
 ghost use Rattle.aead_ciphers_base.specs.Aes.{aes};
 ghost use Rattle.aead_ciphers.specs.BoundCalls.{SealingCall};
-ghost use Rattle.aead_ciphers.specs.Gcm.{gcm_encrypted, gcm_tag, gcm_sealed};
+ghost use Rattle.aead_ciphers.specs.Gcm.{gcm_encrypted, gcm_tag, gcm_sealed, tag_len};
 ghost use Rattle.aead_ciphers.specs.NonceSequence.{UnderNext};
 ghost use Rattle.aead_ciphers.specs.Steps.{with_tag};
 
@@ -104,7 +104,7 @@ impl<K: GcmKey, N: NonceSequence> SealingKey<K, N> {
         ensures sealed { OnOk result (UnderNext (N.is_next self.old.sequence) (λ nonce. B.bytes in_out.new
             ≡ gcm_sealed (aes self.old.key.bytes) nonce (aad_bytes aad.entry) (B.bytes in_out.old))) }
         ensures refused { OnErr result (B.bytes in_out.new ≡ B.bytes in_out.old) }
-        ensures length { OnOk result (length (B.bytes in_out.new) ≡ length (B.bytes in_out.old) + 16) }
+        ensures length { OnOk result (length (B.bytes in_out.new) ≡ length (B.bytes in_out.old) + tag_len) }
         ensures call { SealingCall N.spent N.is_closed N.origin N.gives N.refuses (B.may_refuse in_out.old)
             (B.may_grant in_out.old) self.old self.new (aad_bytes aad.entry) (B.bytes in_out.old) (B.bytes in_out.new) result }
     {

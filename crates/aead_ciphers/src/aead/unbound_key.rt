@@ -1,4 +1,4 @@
-//! Keys without a role, from which the other keys are made.
+//! AEAD keys without a role, from which the other AEAD keys are made.
 
 ghost use Rattle.std.specs.Prelude.{◌≡◌, ◌↔◌, length, IsOk, IfOk};
 ghost use Rattle.aead_ciphers_base.specs.KeyBytes.{key_bytes};

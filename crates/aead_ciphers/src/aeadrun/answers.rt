@@ -1,4 +1,4 @@
-//! The text of responses. It is written word by word, so that no response is held in memory as a whole.
+//! The text of `aeadrun`'s responses. It is written word by word, so that no response is held in memory as a whole.
 ghost use Rattle.std.specs.Prelude.{◌≤◌, ◌++◌, length, take, codes, IfOk, OnOk, OnErr, if◌then◌else◌};
 ghost use Rattle.std.specs.Io.KnownBytes.{Appends};
 ghost use Rattle.std.specs.Result.{ForOk};

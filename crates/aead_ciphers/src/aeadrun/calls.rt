@@ -1,8 +1,8 @@
-//! The calls of the library that commands ask for.
+//! The calls of the library that the commands of `aeadrun` ask for.
 ghost use Rattle.std.specs.Prelude.{◌≡◌, ◌-◌, ◌+◌, ◌^◌, ◌<◌, ◌≤◌, ◌↔◌, ⊤, true, false, length, vec_len, vec_capacity, is_ok, IsOk, IsErr, IfOk, OnOk, OnErr};
 ghost use Rattle.aead_ciphers_base.specs.Aes.{aes};
 ghost use Rattle.aead_ciphers.specs.Algorithm.{key_len};
-ghost use Rattle.aead_ciphers.specs.Gcm.{Fits, gcm_encrypted, gcm_tag, OpenedAttached};
+ghost use Rattle.aead_ciphers.specs.Gcm.{Fits, gcm_encrypted, gcm_tag, tag_len, OpenedAttached};
 ghost use Rattle.aead_ciphers.specs.HeaderProtection.{key_len as mask_key_len, header_protection};
 
 use crate::aead::{
@@ -55,7 +55,7 @@ pub(super) fn open(
     in_out: &mut [u8],
 ) -> Result<usize, Unspecified>
     ensures within { IfOk result (λ count. count ≤ length in_out.new) }
-    ensures count { IfOk result (λ count. count ≡ length in_out.old - 16 - start) }
+    ensures count { IfOk result (λ count. count ≡ length in_out.old - tag_len - start) }
     ensures opened { length key.now ≡ key_len algorithm.now → length nonce.now ≡ NONCE_LEN
         → OpenedAttached (aes key.now) nonce.now aad.now start in_out.old (is_ok result) in_out.new }
     ensures key_length { (length key.now ≡ key_len algorithm.now → ⊥)
@@ -123,10 +123,10 @@ impl Keys {
         message: Vec<u8>,
     ) -> Result<Vec<u8>, Unspecified>
         ensures sealed { IfOk result (λ buffer. SealStep (spent_nonces prefixed_nonce) is_used_up
-            (vec_capacity message < vec_len message + 16) ⊤ self.old.sealing self.new.sealing
+            (vec_capacity message < vec_len message + tag_len) ⊤ self.old.sealing self.new.sealing
             aad.items message.items buffer.items true) }
         ensures refused { OnErr result (SealStep (spent_nonces prefixed_nonce) is_used_up
-            (vec_capacity message < vec_len message + 16) ⊤ self.old.sealing self.new.sealing
+            (vec_capacity message < vec_len message + tag_len) ⊤ self.old.sealing self.new.sealing
             aad.items message.items message.items false) }
         ensures kept { self.new.opening ≡ self.old.opening }
     {
@@ -147,7 +147,7 @@ impl Keys {
         buffer: Vec<u8>,
     ) -> (Vec<u8>, Result<usize, Unspecified>)
         ensures within { IfOk result.1 (λ count. count ≤ vec_len result.0) }
-        ensures count { IfOk result.1 (λ count. count ≡ vec_len buffer - 16 - start) }
+        ensures count { IfOk result.1 (λ count. count ≡ vec_len buffer - tag_len - start) }
         ensures opened { OpenStep (spent_nonces prefixed_nonce) is_used_up self.old.opening self.new.opening aad.items start
             buffer.items result.0.items (is_ok result.1) }
         ensures kept { self.new.sealing ≡ self.old.sealing }

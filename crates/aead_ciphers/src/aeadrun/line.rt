@@ -1,4 +1,4 @@
-//! Lines of input as commands.
+//! The commands of `aeadrun`, parsed from lines of input.
 
 use super::words::{bytes, decimal_number, hex_array};
 use crate::aead::{AES_128_GCM, AES_256_GCM, Algorithm, quic};

@@ -1,4 +1,4 @@
-//! The state that the program keeps from line to line, and how it carries out a command.
+//! The state that `aeadrun` keeps from line to line, and how it carries out a command.
 
 use super::Fault;
 use super::answers::{bytes_answer, keys_answer, open_answer, seal_answer};

@@ -1,4 +1,4 @@
-//! The words of a line that represent bytes and numbers.
+//! The words of a line of `aeadrun` that represent bytes and numbers.
 ghost use Rattle.std.specs.Prelude.{◌≡◌, ◌↔◌, ◌<◌, ◌%◌, length, option_map, Some, IsSome, IfSome, IfOk, OnErr};
 ghost use Rattle.std.specs.Result.{result_ok};
 ghost use Rattle.std.specs.String.{string_bytes};

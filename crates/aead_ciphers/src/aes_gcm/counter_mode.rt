@@ -6,13 +6,14 @@ ghost use Rattle.aead_ciphers_base.specs.Work.{Adds, CanAdd};
 
 use aead_ciphers_base::aes::{BLOCK_LEN, Counter, EncryptCtr32, Overlapping, Work};
 
-/// The length of a chunk, in bytes: 192 blocks.
+/// The length of a chunk, in bytes: 192 blocks, as in ring.
 pub(super) const CHUNK_LEN: usize = 192 * BLOCK_LEN;
 
-/// The length of a batch, in bytes: sixteen blocks, which are whole passes of every cipher that is called here.
+/// The length of a batch, in bytes: sixteen blocks, which are whole passes of every cipher, so that no cipher has to say how
+/// many its pass takes.
 pub(super) const BATCH_LEN: usize = 16 * BLOCK_LEN;
 
-/// The length of the buffer for few blocks, in bytes: four, which the cipher of `aead_ciphers_base` encrypts in a pass, and
+/// The length of the buffer for at most four blocks, in bytes. The cipher of `aead_ciphers_base` encrypts them in one pass, and
 /// that of `aead_ciphers_wide` by byte permutes.
 pub(super) const FEW_LEN: usize = 4 * BLOCK_LEN;
 
@@ -45,11 +46,11 @@ pub(super) fn encrypt_within<A: EncryptCtr32>(
     len
 }
 
-/// Returns how many of `len` bytes go to the cipher as they are: all, if they are whole blocks, else whole batches.
+/// Returns how many of `len` bytes are encrypted where they are: all if they are whole blocks, otherwise whole batches.
 pub(super) fn whole_len(len: usize) -> usize
     ensures aligned { result % 16 ≡ 0 }
     ensures within { result ≤ len }
-    ensures rest { len < result + 256 }
+    ensures rest { len < result + BATCH_LEN }
 {
     if len % BLOCK_LEN == 0 {
         len
@@ -80,10 +81,9 @@ pub(super) fn encrypt_blocks<A: EncryptCtr32>(
 /// Encrypts or decrypts the bytes from `start` on, which are fewer than a batch, to the front of `in_out`: pads them to
 /// whole blocks in a buffer of its own.
 ///
-/// So a last block that is short takes no pass of its own, which is 0.71 of the instructions of opening 17 bytes. A batch has
-/// sixteen blocks, a pass or some passes of every cipher, so no cipher says how many its pass takes. With batches of eight,
-/// sealing 250 bytes on planes of 256 bits takes 0.72 of the instructions. Up to four blocks have a smaller buffer, of which
-/// fewer bytes are set to zero.
+/// A short last block thus shares a pass with the blocks before it: opening 17 bytes takes 0.71 of the instructions. On
+/// planes of 256 bits, sealing 250 bytes takes 0.72 of the instructions that batches of eight blocks took. Up to four blocks
+/// have a smaller buffer, of which fewer bytes are set to zero.
 #[inline(always)]
 pub(super) fn encrypt_rest<A: EncryptCtr32>(
     aes: &A,
@@ -93,7 +93,7 @@ pub(super) fn encrypt_rest<A: EncryptCtr32>(
     work: &mut Work,
 )
     requires within { start ≤ length in_out.old }
-    requires short { length in_out.old < start + 256 }
+    requires short { length in_out.old < start + BATCH_LEN }
     requires sums { CanAdd work.old ((length in_out.old - start + 15) / 16) 0 }
     ensures output { EncryptsToFront (A.cipher aes.now) counter start in_out.old in_out.new }
     ensures worked { Adds work.old work.new ((length in_out.old - start + 15) / 16) 0 }
@@ -109,7 +109,7 @@ pub(super) fn encrypt_rest<A: EncryptCtr32>(
 }
 
 /// Encrypts or decrypts the bytes from `start` on to the front of `in_out`. The work is done in `padded`, which is as long as
-/// these bytes and what is missing from their last block.
+/// these bytes when they are padded to whole blocks.
 #[inline(always)]
 fn encrypt_padded<A: EncryptCtr32>(
     aes: &A,

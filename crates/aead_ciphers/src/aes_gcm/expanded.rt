@@ -1,4 +1,4 @@
-//! The libraries' expanded key, over the ciphers of `aes` and `gcm`.
+//! The expanded AES-GCM key of these libraries: round keys for `aes`, and multiples of the hash subkey for `gcm`.
 
 use super::{GcmKey, opening, sealing};
 use crate::gcm;
@@ -45,7 +45,7 @@ impl GcmKey for ExpandedKey {
     }
 
     fn expand(&mut self, bytes: KeyBytes<'_>, work: &mut Work) {
-        // So that no round key stays of a longer key that was here.
+        // No round key of a longer key that was here before may stay.
         self.round_keys = [[0; 8]; 15];
         self.rounds = aes::expand(&mut self.round_keys, bytes);
         let aes = aes::KeyRef::new(&self.round_keys, self.rounds);

@@ -1,4 +1,4 @@
-//! What an expanded AES-GCM key is to the keys above it.
+//! The trait of expanded AES-GCM keys, over which the keys of `aead` and `aes_gcm` are generic.
 
 ghost use Rattle.std.specs.Prelude.{◌≡◌, ◌-◌, ◌↔◌, ℕ, List, length, is_ok, IsOk, IfOk, OnOk, OnErr};
 ghost use Rattle.aead_ciphers_base.specs.Aes.{aes as aes_cipher};
@@ -20,9 +20,9 @@ use std::ops::RangeFrom;
 pub trait GcmKey: Clone + Drop {
     // The bytes of the key.
     ghost bytes_of: { Self → List ℕ };
-    // It is as `expand` left it.
+    // The value is as `expand` left it.
     ghost is_expanded: { Self → Type 0 };
-    // What it is before it is expanded.
+    // The value before it is expanded.
     ghost zero_key: { Self };
 
     /// Returns a value that is not a key until `expand` is called.

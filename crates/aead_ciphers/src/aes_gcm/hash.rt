@@ -1,4 +1,4 @@
-//! The hash that a tag is computed from (SP 800-38D section 7.1, steps 4 to 6).
+//! The tag of a message, from the hash of its AAD and ciphertext (SP 800-38D section 7.1, steps 4 to 6).
 
 ghost use Rattle.std.specs.Prelude.{◌≡◌, ℕ, List, [], ◌∷◌, ◌++◌};
 ghost use Rattle.aead_ciphers_base.specs.Bytes.{◌⊕◌};
@@ -12,7 +12,7 @@ use aead_ciphers_base::aes::{Block, Work};
 use aead_ciphers_base::bb;
 use aead_ciphers_base::values::Tag;
 
-/// Returns the tag: the hash, ended by the block of the lengths, XOR `mask`, the encrypted first counter block.
+/// Ends the hash with the block of the lengths, and returns the tag: the hash XORed with `mask`, the encrypted first counter block.
 pub(super) fn finish<G: UpdateBlock>(auth: Context<'_, G>, mask: Block, work: &mut Work) -> Tag
     requires { CanAdd work.old 0 1 }
     ensures tag { (done : List (List ℕ)) → IsHashOf auth.entry.hash_subkey done auth.entry.xi →

@@ -1,4 +1,4 @@
-//! A key for calls that count their work.
+//! The AES-GCM key of `aes_gcm::seal` and `aes_gcm::open`, which count their cipher blocks and field products.
 
 ghost use Rattle.std.specs.Prelude.{◌≡◌, IsOk, IfOk};
 ghost use Rattle.aead_ciphers_base.specs.KeyBytes.{key_bytes};

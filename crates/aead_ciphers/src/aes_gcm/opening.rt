@@ -1,4 +1,4 @@
-//! Opening with any cipher and hash (SP 800-38D section 7.2).
+//! Opening AES-GCM messages with any cipher and hash (SP 800-38D section 7.2).
 
 ghost use Rattle.std.specs.Prelude.{◌≡◌, ◌-◌, ◌≤◌, ◌↔◌, length, is_ok, IsOk, IfOk, OnOk, OnErr};
 ghost use Rattle.aead_ciphers_base.specs.Bytes.{zero_block};

@@ -1,4 +1,4 @@
-//! Sealing with any cipher and hash (SP 800-38D section 7.1).
+//! Sealing AES-GCM messages with any cipher and hash (SP 800-38D section 7.1).
 
 ghost use Rattle.std.specs.Prelude.{◌≡◌, ◌*◌, ◌↔◌, ◌≤◌, length, take, IsOk, IfOk, OnOk, OnErr};
 ghost use Rattle.aead_ciphers_base.specs.Bytes.{zero_block};
@@ -66,17 +66,17 @@ pub fn seal_with<A: EncryptCtr32, G: UpdateBlocks>(
     Ok(finish(auth, mask, work))
 }
 
-/// Encrypts a plaintext of at most 240 bytes in place, and returns the mask of the tag, which is the encrypted first
+/// Encrypts a plaintext of at most `SHORT_LEN` bytes in place, and returns the mask of the tag, which is the encrypted first
 /// counter block. The counter blocks of the plaintext follow that one, so counter mode of a zero block followed by the
-/// plaintext computes both at once, of at most sixteen blocks. That saves a pass of four blocks. An empty plaintext isn't
-/// passed: it was 4 % faster without.
+/// plaintext, at most sixteen blocks in all, computes both at once. That saves a pass over four blocks. The caller handles an
+/// empty plaintext itself, which is 4 % faster.
 fn encrypt_short<A: EncryptCtr32>(
     aes: &A,
     nonce: Nonce,
     in_out: &mut [u8],
     work: &mut Work,
 ) -> Block
-    requires short { length in_out.old ≤ 240 }
+    requires short { length in_out.old ≤ SHORT_LEN }
     requires sums { CanAdd work.old (sealing_blocks (length in_out.old)) 0 }
     ensures ciphertext { in_out.new ≡ gcm_encrypted (A.cipher aes.now) nonce in_out.old }
     ensures mask { result ≡ A.cipher aes.now (counter_block nonce 1) }
@@ -93,7 +93,7 @@ fn encrypt_short<A: EncryptCtr32>(
 }
 
 /// Encrypts the plaintext in place and returns the mask of the tag, as `encrypt_short` does. The work is done in `text`, which
-/// starts with a block of zeros and has room for the plaintext and for what is missing from its last block.
+/// starts with a block of zeros and has room for the plaintext when it is padded to whole blocks.
 #[inline(always)]
 fn encrypt_after_zeros<A: EncryptCtr32>(
     aes: &A,

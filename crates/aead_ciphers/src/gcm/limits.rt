@@ -1,4 +1,4 @@
-//! The limits on lengths (SP 800-38D section 5.2.1.1).
+//! The limits on the lengths of AAD and plaintext (SP 800-38D section 5.2.1.1).
 
 ghost use Rattle.std.specs.Prelude.{◌↔◌, IsTrue};
 ghost use Rattle.aead_ciphers.specs.Gcm.{Fits};

@@ -1,5 +1,6 @@
 -- `lend_plaintext` lends the front of a slice, or lets it go. The borrow checker shows no write-back clause for a
--- slice that lends a slice, so this proof walks the code by hand.
+-- slice that lends a slice, so this proof walks the code by hand; brackets name the entries of the context, as the base
+-- crate's `Walks` says.
 use Rattle.aead_ciphers_base.proofs
 use proofs.WalkNames.{◌≡◌, refl, sym, ap, ◌∙◌, List, [], ◌∷◌, ◌++◌, ℕ, ◌^◌, ◌<◌, arith, length, take, drop_list, take-append-drop, Ura, named, Val, vstruct, vnil, of_list, flft, Logic, Sq, prop, ‵, raw, some, later, ◌$◌, ◌∵◌, !, qed, move, keep, split3, use1, use2, await, pick, whole, sub, agg, stop, fld, from, hop, lit, of_opd, addr, and_then, first, exec, returns, alloc_all, pass_all, free_all, look_at, look_in_at, get, get_in, sets, env, fact, usize, Is, MutBor, MutSlice, Room, slice_val, mut_slice_vals, nothing, heard, rewrite, follows, Items, RattleType, Stays, Ok, Err}
 use proofs.Walks.{dropped, goes, spreads, slice_typed, tell, tells, says, ends}

@@ -1,7 +1,7 @@
 use Rattle.std.proofs.Common.{◌<◌, ◌^◌, ◌∙◌, arith, rules}
-use Rattle.aead_ciphers.specs.Multiples.{entry}
+use Rattle.aead_ciphers.specs.Multiples.{entry, place}
 use Rattle.aead_ciphers.proofs
-use proofs.BlockLanes.{place, length-written, entry-written, entry-written_other, number-words}
+use proofs.BlockLanes.{length-written, entry-written, entry-written_other, number-words}
 use proofs.SubkeyMultiples.{IsMultiple, raised_next, multiples_more, first_multiple, block_of-multiple}
 use proofs.gcm.product.write_multiples.Goals as goal
 

@@ -1,4 +1,5 @@
 -- `open_in_place` lends what `lend_plaintext` lends of what `open_in_place_to_front` wrote.
+-- Brackets name the entries of the context, as the base crate's `Walks` says.
 use Rattle.aead_ciphers.proofs
 use proofs.LendingWalk as Walk
 use proofs.LendingWalk.{refl, ◌-◌, [], ◌∷◌, ◌$◌, !, move}
@@ -38,7 +39,7 @@ open_in_place_spec 𝓤 𝓛 𝓜 𝓡 wired K LK g d gc dc dd met-k met-c met-d
     K LK g d gc dc dd met-k met-c met-d)
     ((κs-lent, qs-lent, bounds, (self, (nonce, (aad, (Walk.renamed b δ, tt)))), vals), tt) (Walk.gets ! tt refl) (λ v u ws.
     let new = ws.1.1.1.0 in Walk.learns ! (λ opened. Walk.learns ! (λ counted. Walk.heard ! _ (λ refused. let m =
-    Walk.length old - 16 in let size = Walk.length-before_tag 0 old _ (omega Walk.arith) in
+    Walk.length old - Walk.tag_len in let size = Walk.length-before_tag 0 old _ (omega Walk.arith) in
     -- [the answer; four tokens; nothing of self, nonce, aad; what in_out ends as; what is kept]
     move ! (3 ∷ 0 ∷ 8 ∷ 9 ∷ []) $ Walk.regains 𝓛 b 𝓜 𝓡 m v u new ! tt α δ
     (Walk.opened_fronts size u opened counted) (λ is-u. Walk.lands_as ! refl refl is-u.0 $

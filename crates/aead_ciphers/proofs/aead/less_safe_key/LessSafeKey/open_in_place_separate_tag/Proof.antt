@@ -1,4 +1,5 @@
 -- `open_in_place_separate_tag` lends what `lend_plaintext` lends of what `open_in_place_separate_tag_to_front` wrote.
+-- Brackets name the entries of the context, as the base crate's `Walks` says.
 use Rattle.aead_ciphers.proofs
 use proofs.LendingWalk as Walk
 use proofs.LendingWalk.{refl, ◌-◌, [], ◌∷◌, ◌$◌, !, move}

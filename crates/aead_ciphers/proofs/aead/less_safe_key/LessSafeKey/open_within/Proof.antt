@@ -1,4 +1,5 @@
 -- `open_within` lends what `lend_plaintext` lends of what `open_within_to_front` wrote.
+-- Brackets name the entries of the context, as the base crate's `Walks` says.
 use Rattle.aead_ciphers.proofs
 use proofs.LendingWalk as Walk
 use proofs.LendingWalk.{refl, ◌-◌, [], ◌∷◌, ◌$◌, !, move}
@@ -39,7 +40,7 @@ open_within_spec 𝓤 𝓛 𝓜 𝓡 wired K LK g d gc dc dd met-k met-c met-d =
     K LK g d gc dc dd met-k met-c met-d)
     ((κs-lent, qs-lent, bounds, (self, (nonce, (aad, (Walk.renamed b δ, (range, tt))))), vals), tt) (Walk.gets ! tt refl)
     (λ v u ws. let new = ws.1.1.1.0 in Walk.learns ! (λ opened. Walk.learns ! (λ counted. Walk.heard ! _ (λ refused. let m =
-    Walk.length old - 16 - range.start in let size = Walk.length-before_tag range.start old _ refl in
+    Walk.length old - Walk.tag_len - range.start in let size = Walk.length-before_tag range.start old _ refl in
     -- [the answer; four tokens; nothing of self, nonce, aad; what in_out ends as; nothing of range; what is kept]
     move ! (3 ∷ 0 ∷ 8 ∷ 10 ∷ []) $ Walk.regains 𝓛 b 𝓜 𝓡 m v u new ! tt α δ
     (Walk.opened_fronts size u opened counted) (λ is-u. Walk.lands_as ! refl refl is-u.0 $

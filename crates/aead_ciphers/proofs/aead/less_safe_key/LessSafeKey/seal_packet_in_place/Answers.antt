@@ -1,12 +1,12 @@
 use Rattle.std.proofs.Common.{◌≡◌, ◌∙◌, ℕ, ◌+◌, ◌-◌, ◌≤◌, length, false, true, Result, Ok, Err, refl, ap, arith}
 use Rattle.std.specs.Prelude.{◌↔◌, IsErr, IsOk}
-use Rattle.aead_ciphers.specs.Gcm.{Fits}
+use Rattle.aead_ciphers.specs.Gcm.{Fits, tag_len}
 use Rattle.aead_ciphers.specs.Packet.{PacketFits}
 use Rattle.aead_ciphers.proofs.aead.less_safe_key.LessSafeKey.seal_packet_in_place.Goals as goal
 
 -- The lengths of a packet, of its header, of the bytes after it and of the message: they are within the limits, or not.
-module _ (h n header body message : ℕ) (is_header : header ≡ h) (is_body : body + h ≡ n) (is_message : message ≡ body - 16) where
-  fits_packet : 16 ≤ n → h ≤ n - 16 → Fits header message → PacketFits h n
+module _ (h n header body message : ℕ) (is_header : header ≡ h) (is_body : body + h ≡ n) (is_message : message ≡ body - tag_len) where
+  fits_packet : tag_len ≤ n → h ≤ n - tag_len → Fits header message → PacketFits h n
   fits_packet enough room fits = record {
     room = omega arith;
     lengths = record { aad = omega (arith, fits.aad); message = omega (arith, fits.message) };

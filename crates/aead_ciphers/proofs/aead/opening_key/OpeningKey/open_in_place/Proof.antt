@@ -1,4 +1,5 @@
 -- `open_in_place` lends what `lend_plaintext` lends of what `open_in_place_to_front` wrote.
+-- Brackets name the entries of the context, as the base crate's `Walks` says.
 use Rattle.aead_ciphers.proofs
 use proofs.LendingWalk as Walk
 use proofs.LendingWalk.{refl, ◌-◌, [], ◌∷◌, ◌$◌, !, move, learns}
@@ -37,7 +38,7 @@ open_in_place_spec 𝓤 𝓛 𝓜 𝓡 wired K N LK LN g d gc dc gn dn dd met-k 
     (Proofs.Code.calls-aead_ciphers::aead::opening_key::OpeningKey::open_in_place_to_front 𝓡.env wired)
     K N LK LN g d gc dc gn dn dd met-k met-c met-n met-d)
     ((κs-lent, qs-lent, bounds, (self, (aad, (Walk.renamed b δ, tt))), vals), tt) (Walk.gets ! tt refl) (λ v u ws.
-    let after = ws.0 in let new = ws.1.1.0 in learns ! (λ call. Walk.heard ! _ (λ counted. let m = Walk.length old - 16 in
+    let after = ws.0 in let new = ws.1.1.0 in learns ! (λ call. Walk.heard ! _ (λ counted. let m = Walk.length old - Walk.tag_len in
     let fronts = Walk.step_fronts _ _ _ _ _ _ old new m (omega Walk.arith) u call.step counted in
     -- [the answer; five tokens; self; nothing of aad; what in_out ends as; what is kept]
     move ! (3 ∷ 0 ∷ 8 ∷ 9 ∷ []) $ Walk.regains 𝓛 b 𝓜 𝓡 m v u new ! tt α δ fronts (λ is-u. Walk.lands_as !

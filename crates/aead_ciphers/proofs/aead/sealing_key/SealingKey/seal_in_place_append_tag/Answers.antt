@@ -3,7 +3,7 @@ use Rattle.std.proofs.lemmas.Bool.{false≢true}
 use Rattle.std.proofs.Math.Seq.{take-append_seam}
 use Rattle.aead_ciphers_base.specs.Aes.{aes}
 use Rattle.aead_ciphers_base.specs.Values.{aad_bytes}
-use Rattle.aead_ciphers.specs.Gcm.{gcm_sealed}
+use Rattle.aead_ciphers.specs.Gcm.{gcm_sealed, tag_len}
 use Rattle.aead_ciphers.specs.Steps.{no_nonce}
 use Rattle.aead_ciphers.proofs
 use proofs.SealLemmas.{grown_less, grown_more, grown_front, in_ok, in_err, no_err, under_next, spent_step}
@@ -14,9 +14,9 @@ pub returns-clause-call : goal.returns-clause-call
 returns-clause-call g c =
     let bytes = g.B.InOut.bytes in
     let old = bytes c.args.in_out.now in
-    let grown : bytes c.grow_by_tag.new.self ≡ old ++ replicate 16 0 = c.in_ok-grow_by_tag.ensures.grown in
-    let few : length (bytes c.grow_by_tag.new.self) - 16 ≡ length old = rw grown (grown_less old) in
-    let front : take (length old) (bytes c.grow_by_tag.new.self) ≡ old = rw grown (take-append_seam old (replicate 16 0)) in
+    let grown : bytes c.grow_by_tag.new.self ≡ old ++ replicate tag_len 0 = c.in_ok-grow_by_tag.ensures.grown in
+    let few : length (bytes c.grow_by_tag.new.self) - tag_len ≡ length old = rw grown (grown_less old) in
+    let front : take (length old) (bytes c.grow_by_tag.new.self) ≡ old = rw grown (take-append_seam old (replicate tag_len 0)) in
     elim c.match-advance.branch [
       | in-Ok w ↦
           let made = rw (few, front) at w.seal_with_room.ensures in
@@ -46,9 +46,9 @@ pub returns-clause-sealed : goal.returns-clause-sealed
 returns-clause-sealed g c =
     let bytes = g.B.InOut.bytes in
     let old = bytes c.args.in_out.now in
-    let grown : bytes c.grow_by_tag.new.self ≡ old ++ replicate 16 0 = c.in_ok-grow_by_tag.ensures.grown in
-    let few : length (bytes c.grow_by_tag.new.self) - 16 ≡ length old = rw grown (grown_less old) in
-    let front : take (length old) (bytes c.grow_by_tag.new.self) ≡ old = rw grown (take-append_seam old (replicate 16 0)) in
+    let grown : bytes c.grow_by_tag.new.self ≡ old ++ replicate tag_len 0 = c.in_ok-grow_by_tag.ensures.grown in
+    let few : length (bytes c.grow_by_tag.new.self) - tag_len ≡ length old = rw grown (grown_less old) in
+    let front : take (length old) (bytes c.grow_by_tag.new.self) ≡ old = rw grown (take-append_seam old (replicate tag_len 0)) in
     elim c.match-advance.branch [
       | in-Ok w ↦
           rw (← c.self.view_is, w.in_out-is, w.result-is)
@@ -62,9 +62,9 @@ pub returns-clause-refused : goal.returns-clause-refused
 returns-clause-refused g c =
     let bytes = g.B.InOut.bytes in
     let old = bytes c.args.in_out.now in
-    let grown : bytes c.grow_by_tag.new.self ≡ old ++ replicate 16 0 = c.in_ok-grow_by_tag.ensures.grown in
-    let few : length (bytes c.grow_by_tag.new.self) - 16 ≡ length old = rw grown (grown_less old) in
-    let front : take (length old) (bytes c.grow_by_tag.new.self) ≡ old = rw grown (take-append_seam old (replicate 16 0)) in
+    let grown : bytes c.grow_by_tag.new.self ≡ old ++ replicate tag_len 0 = c.in_ok-grow_by_tag.ensures.grown in
+    let few : length (bytes c.grow_by_tag.new.self) - tag_len ≡ length old = rw grown (grown_less old) in
+    let front : take (length old) (bytes c.grow_by_tag.new.self) ≡ old = rw grown (take-append_seam old (replicate tag_len 0)) in
     elim c.match-advance.branch [
       | in-Ok w ↦ rw (w.in_out-is, w.result-is) (rw (few, front) at w.seal_with_room.ensures).kept
       | in-Err w ↦ rw (w.in_out-is, w.result-is) (w.cut_tag.ensures ∙ rw grown (grown_front old))
