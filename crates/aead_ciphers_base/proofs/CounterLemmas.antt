@@ -1,4 +1,4 @@
--- Counter blocks.
+-- The bytes of counter blocks, and the blocks that follow one.
 use Rattle.std.proofs
 use proofs.Common.{◌≡◌, ℕ, ◌+◌, ◌%◌, ◌^◌, ◌<◌, List, [], ◌∷◌, ◌++◌, length, take, drop, set, get_or, refl, sym, ap, ap₂, subst, ◌∙◌, arith, take-append-drop, length-append, length-take-le, length-drop, get_or-drop, take_at, drop_at, get_or-append-add, append-nil}
 use Rattle.std.specs.Int.{from_be_bytes, to_be_bytes, w32}

@@ -39,7 +39,7 @@ module _ (cipher : List ℕ → List ℕ) (nonce : List ℕ) where
   unfolding counter_mode xored
   counter_mode-nil k text e = ap (counter_mode cipher nonce k) e
 
-  -- The front of a buffer up to d was written: n more bytes are put there, from s bytes further on.
+  -- The first d bytes of a buffer were written, from those s bytes further on. The next n, written in the same way, make it d + n.
   pub advance : (k q d n s : ℕ) (was now : List ℕ) → d ≡ 16 * q → s + d + n ≤ length was →
       now ≡ counter_mode cipher nonce k (take d (drop s was)) ++ drop d was →
       take d now ++ counter_mode cipher nonce (k + q) (take n (drop (s + d) now)) ++ drop (d + n) now
@@ -58,7 +58,7 @@ module _ (cipher : List ℕ → List ℕ) (nonce : List ℕ) where
       let column : i % 16 ≡ i = omega arith in
       rw (row, column, e) refl))
 
-  -- the front of a window from d on, of n bytes and s more, is counter mode of what comes after its first s bytes
+  -- Of the window xs[d .. d + n + s], the first n bytes become counter mode of its last n, which are xs[d + s .. d + s + n].
   window : (k s d n size : ℕ) (xs w : List ℕ) → s + d + n ≤ length xs → size ≡ n + s →
       (let win = take size (drop d xs) in w ≡ counter_mode cipher nonce k (drop s win) ++ drop (length win - s) win) →
       take d xs ++ (w ++ drop size (drop d xs)) ≡ take d xs ++ counter_mode cipher nonce k (take n (drop (s + d) xs)) ++ drop (d + n) xs
@@ -86,7 +86,7 @@ abbrev pub EncryptsFirst : (List ℕ → List ℕ) → List ℕ → ℕ → ℕ 
 EncryptsFirst cipher counter start count old new =
     InCounterMode cipher counter (take count (drop start old)) (λ text. new ≡ text ++ drop count old)
 
--- a buffer of which nothing is encrypted
+-- a buffer is unchanged if the first 0 bytes of it are encrypted
 pub encrypts_none : (cipher : List ℕ → List ℕ) (counter : List ℕ) (s : ℕ) (was : List ℕ) → EncryptsFirst cipher counter s 0 was was
 encrypts_none cipher counter s was = λ nonce k at. ap (λ u. u ++ was) (sym (counter_mode-nil cipher nonce k [] refl))
 
@@ -105,7 +105,7 @@ walked_none cipher begun s was = record {
   counter = advances_none begun;
 }
 
--- n bytes more from d on, where the walk is; they need not be whole blocks
+-- after d bytes the walk encrypts n more, which need not be whole blocks
 pub walked_on : {cipher : List ℕ → List ℕ} {begun counter : List ℕ} {done : ℕ} (s d n size : ℕ) (was now piece : List ℕ)
     → done ≡ d → s + d + n ≤ length was → size ≡ n + s
     → Walked cipher begun counter s done was now → EncryptsToFront cipher counter s (take size (drop d now)) piece
@@ -115,7 +115,7 @@ walked_on {cipher} {begun} {counter} s d n size was now piece at room es walk fr
     window cipher nonce _ s d n size now piece (omega (arith, here.size)) es (front nonce _ (here.counter nonce k h))
     ∙ advance cipher nonce k (d / 16) d n s was now (omega (arith, here.aligned)) room (here.output nonce k h)
 
--- one chunk more, of n bytes
+-- after d bytes the walk encrypts a chunk of n, which are whole blocks
 pub walked_more : {cipher : List ℕ → List ℕ} {begun counter next : List ℕ} (s d n m size : ℕ) (was now chunk : List ℕ)
     → s + d + n ≤ length was → n % 16 ≡ 0 → m ≡ n / 16 → size ≡ n + s → length chunk ≡ size
     → Walked cipher begun counter s d was now → EncryptsToFront cipher counter s (take size (drop d now)) chunk → Advances counter next m
@@ -143,7 +143,7 @@ pub encrypts_all : (cipher : List ℕ → List ℕ) (counter : List ℕ) (s d : 
 unfolding counter_mode
 encrypts_all cipher counter s d was new done all = λ nonce k at. done nonce k at ∙ all_from _ s d was all
 
--- i blocks were encrypted: block i is read, XORed with its key stream, and put after them
+-- after i blocks, block i is read, XORed with its encrypted counter block, and written after them
 pub encrypts_block : (cipher : List ℕ → List ℕ) (counter then pad : List ℕ) (s i n m : ℕ) (was now text written : List ℕ) →
     s + 16 * i + 16 ≤ length was → length now ≡ length was → n ≡ 16 → m ≡ 16 →
     EncryptsFirst cipher counter s (16 * i) was now → Advances counter then i → pad ≡ cipher then → length pad ≡ 16 →

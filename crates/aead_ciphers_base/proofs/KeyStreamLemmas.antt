@@ -51,7 +51,7 @@ module _ (key : List ℕ) (counter : ℕ) (nonce : List ℕ) where
       let column : k % 64 ≡ k = omega arith in
       rw (row, column, e) refl)
 
-  -- n more bytes of a slice, the next m blocks or what is left, after j blocks were written
+  -- after j blocks of a slice, n more bytes are written: m blocks, or what is left
   pub written_more : (start j m n : ℕ) (old was stream : List ℕ)
       → was ≡ chacha20_encrypted key counter nonce (take (64 * j) (drop start old)) ++ drop (length (take (64 * j) (drop start old))) old
       → take n stream ≡ each_below n (stream_byte key (counter + j) nonce)
@@ -77,7 +77,7 @@ module _ (key : List ℕ) (counter : ℕ) (nonce : List ℕ) where
       ∙ advance f g at n start old was (stream_byte-later j) (omega arith) held'
       ∙ ap₂ (λ (u : List ℕ) (k : ℕ). xored f u ++ drop k old) all la
 
-  -- encrypting twice
+  -- encrypting twice gives the text back
   pub chacha20_encrypted-chacha20_encrypted : (m : List ℕ)
       → chacha20_encrypted key counter nonce (chacha20_encrypted key counter nonce m) ≡ m
   unfolding chacha20_encrypted

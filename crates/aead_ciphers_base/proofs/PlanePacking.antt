@@ -44,7 +44,7 @@ low_is k q = same_in_table (λ j. bit_at (slice_index LOW j)) (λ j t. 1 - bit_a
 low_shifted_is : (k q : ℕ) → k < 6 → q < 64 → bit_at (slice_index LOW k * 2 ^ (2 ^ k) % 2 ^ 64) q ≡ bit_at q k
 low_shifted_is k q = same_in_table (λ j. bit_at (slice_index LOW j * 2 ^ (2 ^ j) % 2 ^ 64)) (λ j t. bit_at t j) 6 64 k q refl
 
--- what the sum with a difference of digits leaves, where the difference is taken at d, and where at the other digit
+-- modulo 2, x + (x + y) d and y + (x + y) (1 - d) are x for d = 0 and y for d = 1
 chosen_digit : (x y d : ℕ) → x < 2 → y < 2 → d < 2
     → ((x + min ((x + y) % 2) d) % 2 ≡ (if d == 0 then x else y)) × ((y + min ((x + y) % 2) (1 - d)) % 2 ≡ (if d == 0 then x else y))
 chosen_digit x y zero hx hy hd = omega arith
@@ -91,11 +91,11 @@ word_bit-at w i q n h e =
     let place : n % 64 ≡ q = omega arith in
     ap₂ (λ j t. bit_at (slice_index w j) t) word place
 
--- each bit of eight words is the one of others that `source` says
+-- bit n of the eight words `new` is bit `source n` of the words `old`
 abbrev pub Moved : List ℕ → List ℕ → (ℕ → ℕ) → Type 0
 Moved old new source = (n : ℕ) → n < 512 → word_bit new n ≡ word_bit old (source n)
 
--- words 2 i and 2 i + 1 of r are those that `delta_swap` makes of words i and i + 4 of w
+-- `exchange_digits`: if words 2 i and 2 i + 1 of r are what `delta_swap` makes of words i and i + 4 of w
 pub exchange_digits_is : (w r : List ℕ) (k : ℕ) → k < 6
     → ((i : ℕ) → i < 4 → (q : ℕ) → q < 64
     → bit_at (slice_index r (2 * i)) q ≡ (if bit_at q k == 0 then bit_at (slice_index w i) q else bit_at (slice_index w (i + 4)) (q - 2 ^ k)))
@@ -225,7 +225,7 @@ module _ (words turned planes : List ℕ) (blocks : List (List ℕ)) where
 
 -- ---- every eighth place
 
--- plane q is the word from bit q on, below b
+-- for each q below b, plane q is the word shifted right by q
 abbrev pub IsSpread : ℕ → List ℕ → ℕ → Type 0
 IsSpread word planes b = (q : ℕ) → q < b → slice_index planes q ≡ word / 2 ^ q
 
@@ -239,19 +239,19 @@ spread_byte word planes h j hj =
     sym (byte_of_planes word j (8 * j) planes hj
     (λ b hb. sym (ap (λ t. bit_at t (8 * j)) (h b hb) ∙ bit_at-shr word b (8 * j))))
 
--- the bits of a plane at every eighth place, moved by b
+-- bit i of the plane's bits at every eighth place, shifted left by b
 placed_bit : (plane b i : ℕ) → b < 8 → i < 64
     → bit_at (bit_and plane EIGHTHS * 2 ^ b % 2 ^ 64) i ≡ min (bit_at plane (i - b)) (if i % 8 == b then 1 else 0)
 placed_bit plane b i hb hi =
     shifted_and plane EIGHTHS b i _ hi (λ more. refl)
     ∙ ap (min _) (same_in_table (λ c. bit_at (EIGHTHS * 2 ^ c % 2 ^ 64)) (λ c t. if t % 8 == c then 1 else 0) 8 64 b i refl hb hi)
 
--- the word has the bits of the planes below b, and no others
+-- the word has the bits at every eighth place of the planes below b, and no others
 abbrev pub IsGathered : List ℕ → ℕ → ℕ → Type 0
 IsGathered planes word b = (i : ℕ) → i < 64
     → bit_at word i ≡ (if nat_lt (i % 8) b then bit_at (slice_index planes (i % 8)) (i - i % 8) else 0)
 
--- one more digit of a sum of which one is not zero
+-- [k < b] f k + [k = b] f b = [k < b + 1] f k, where [P] is 1 if P holds, and otherwise 0
 digit_more : (f : ℕ → ℕ) (k b : ℕ) → f k < 2
     → ((if nat_lt k b then f k else 0) + min (f b) (if k == b then 1 else 0)) % 2 ≡ (if nat_lt k (b + 1) then f k else 0)
 digit_more f k b h = grind (arith, nat_tests)

@@ -62,7 +62,7 @@ two_below_of x = pair 2 0x3333333333333333 2 0xcccccccccccccccc x
 pub two_below_moves : (x : ℕ) → x < 2 ^ 64 → Moves place_of_four 4 (below 2) x (two_below_of x)
 two_below_moves x h = moved two_below_of (below 2) (pair_additive 2 0x3333333333333333 2 0xcccccccccccccccc) refl x h
 
--- the bits of rows 2 and 3 that differ two columns on
+-- where the bits of rows 2 and 3 differ from those two columns further
 abbrev delta : ℕ → ℕ
 delta x = bit_and (bit_xor (x / 2 ^ 8) x) 0x00cc00cc00cc00cc
 

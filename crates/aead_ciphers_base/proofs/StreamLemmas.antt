@@ -1,4 +1,4 @@
--- A text XOR a stream: in pieces, in a buffer from some place on to its front, and twice.
+-- A text XORed with a stream: in pieces, from a start in a buffer to its front, and twice.
 use Rattle.std.proofs
 use proofs.Common.{◌≡◌, ℕ, ◌+◌, ◌-◌, ◌<◌, ◌≤◌, List, ◌++◌, length, take, drop, get_or, refl, sym, ap, ap₂, ◌∙◌, arith, length-append, length-drop, take_all, take-append-drop, take_at, drop-drop, get_or-take, length-take-le}
 use proofs.lemmas.List.FromFn.{fill_by_all}
@@ -21,30 +21,30 @@ xored-append f g xs ys later =
     ∙ xor-append xs ys (each_below (length xs) f) _ (sym (length-each (length xs) f))
     ∙ ap (λ us. (xs ⊕ each_below (length xs) f) ++ (ys ⊕ us)) (each-same (length ys) _ g (λ i h. later i))
 
--- the front of what was encrypted is the front, encrypted
+-- the first n bytes of an encrypted text are the first n bytes, encrypted
 pub take-xored : (f : ℕ → ℕ) (n : ℕ) (text : List ℕ) → n ≤ length text → take n (xored f text) ≡ xored f (take n text)
 take-xored f n text le =
     ap (λ u. take n (xored f u)) (sym (take-append-drop n text))
     ∙ ap (take n) (xored-append f (λ i. f _) _ (drop n text) (λ i. refl))
     ∙ take_at _ _ n (length-xored f _ ∙ length-take-le n text le)
 
--- encrypting twice
+-- encrypting twice gives the text back
 pub xored-xored : (f : ℕ → ℕ) (text : List ℕ) → xored f (xored f text) ≡ text
 unfolding xored
 xored-xored f text =
     rw (length-xored f text) (xor-xor text _ (omega (arith, length-each (length text) f)))
 
--- the first n bytes of a list that holds the stream's
+-- the first n bytes of a list are the stream's if each is
 pub stream_front : (f : ℕ → ℕ) (bytes : List ℕ) (n : ℕ) → n ≤ length bytes
     → ((i : ℕ) → i < n → get_or bytes i 0 ≡ f i) → take n bytes ≡ each_below n f
 stream_front f bytes n le same = fill_by_all f _ n 0 (length-take-le n bytes le) (λ i h. get_or-take n bytes i 0 h ∙ same i h)
 
--- a text XOR a list that starts with the stream's bytes
+-- XOR with a list that begins with the stream's bytes is XOR with the stream
 pub xored-is : (f : ℕ → ℕ) (text bytes : List ℕ) → take (length text) bytes ≡ each_below (length text) f → text ⊕ bytes ≡ xored f text
 unfolding xored
 xored-is f text bytes e = sym (xor-take text bytes) ∙ ap (λ u. text ⊕ u) e
 
--- The front of a buffer up to d was written: n more bytes are put there, from s bytes further on.
+-- The first d bytes of a buffer were written, from those s bytes further on. The next n, written in the same way, make it d + n.
 pub advance : (f g : ℕ → ℕ) (d n s : ℕ) (was now : List ℕ) → ((i : ℕ) → f (d + i) ≡ g i) → s + d + n ≤ length was →
     now ≡ xored f (take d (drop s was)) ++ drop d was →
     take d now ++ xored g (take n (drop (s + d) now)) ++ drop (d + n) now ≡ xored f (take (d + n) (drop s was)) ++ drop (d + n) was
@@ -62,7 +62,7 @@ advance f g d n s was now later room e =
     (sym (xored-append f g _ _ (λ i. ap (λ m. f (m + i)) front ∙ later i))
     ∙ ap (xored f) (sym (take-add d n text)))
 
--- the first d bytes from s on are all of them
+-- the d bytes from s on are all that are left if d = length was - s
 pub all_from : (f : ℕ → ℕ) (s d : ℕ) (was : List ℕ) → d ≡ length was - s →
     xored f (take d (drop s was)) ++ drop d was ≡ xored f (drop s was) ++ drop (length was - s) was
 all_from f s d was all =

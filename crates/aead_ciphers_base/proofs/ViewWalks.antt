@@ -1,4 +1,4 @@
--- What the walks of views share. Assumes `Logic`.
+-- Steps of walks over calls that make views of slices and of buffers. Assumes `Logic`.
 --     gone, gone_within     nothing is left of a value that is given up
 --     in_two                a pair of slices is taken apart
 --     struct_of, paired     a struct is made of its fields, a pair of two values
@@ -59,11 +59,11 @@ boxed n = vstruct (vcons (vint w64 n) vnil)
 abbrev pub held : Val → ℕ → Val
 held u n = vstruct (vcons u (vcons (vint w64 n) vnil))
 
--- what a value that is given up owns at the end
+-- nothing is left at the end of a value that is given up
 pub gone : {M : Type 1} {𝓤 : Ura M} (𝓛 : Logic 𝓤) → ent 𝓤 (sem 𝓛 ftrue) (𝓛.H.⇛ (sem 𝓛 (fsep ftrue ftrue)))
 gone 𝓛 = qed 𝓛 (‵ ftrue ∷ []) ∵ updating ! $ now ! $ nothing ! $ fjoin ! $ done !
 
--- the same of a value whose field is such a value
+-- nor of a value whose field is given up
 pub gone_within : {M : Type 1} {𝓤 : Ura M} (𝓛 : Logic 𝓤) → ent 𝓤 (sem 𝓛 ftrue) (𝓛.H.⇛ (sem 𝓛 (fsep (fsep ftrue ftrue) ftrue)))
 gone_within 𝓛 = qed 𝓛 (‵ ftrue ∷ []) ∵ updating ! $ now ! $ nothing ! $ fjoin ! $ nothing ! $ move ! (1 ∷ 0 ∷ []) $ fjoin ! $ done !
 

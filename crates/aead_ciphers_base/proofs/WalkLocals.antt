@@ -1,4 +1,4 @@
--- Steps of the machine over locals. Assumes `Logic`.
+-- Steps of walks over the local variables of a function. Assumes `Logic`.
 --     gets, alone, both      operands that are locals read whole
 --     reborrows              `&mut *s` of a slice s: its pointer, and then the pointer with the length
 use Rattle.std.proofs.Common.{◌≡◌, sym, ap, subst, ◌∙◌, refl, List, [], ◌∷◌, ℕ, zero, T}

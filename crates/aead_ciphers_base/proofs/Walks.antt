@@ -1,4 +1,9 @@
--- Walks of compiled code by hand. The context has an entry for each token and for what each parameter owns. Assumes `Logic`.
+-- Walks of compiled code by hand. Assumes `Logic`.
+-- The context is a list of entries, and a comment in brackets in a walk names them, the head first:
+--     a token               a lifetime has not ended
+--     a parameter           what it owns; `nothing` once that was given up
+--     the premise, the clauses      what the contract's `requires` and `ensures` say
+-- The steps:
 --     dropped, goes         of no parameter anything is had at the end
 --     Word, Words           values that are one word each
 --     entered, walked       what there is on entry, and a walk from there to the end of the body

@@ -72,7 +72,7 @@ stream_byte key counter nonce i = slice_index (chacha20_block key (counter + i /
 unfoldable pub chacha20_encrypted : List ℕ → ℕ → List ℕ → List ℕ → List ℕ
 chacha20_encrypted key counter nonce message = xored (stream_byte key counter nonce) message
 
--- the value of a `Counter` in contracts: the block counter, and the bytes of the nonce
+-- what a contract sees of a `Counter`: the block counter, and the bytes of the nonce
 pub record Position : Type 0 where
   pub number : ℕ
   pub nonce : List ℕ

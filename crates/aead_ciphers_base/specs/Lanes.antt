@@ -1,4 +1,4 @@
--- Lists side by side in vectors.
+-- States of ChaCha20 in vectors: four side by side in lanes, and one by its rows.
 use Rattle.std.specs.Prelude.{ℕ, List, [], ◌++◌, slice_index, slice_index_or}
 use Rattle.aead_ciphers_base.specs.Bytes.{each_below}
 

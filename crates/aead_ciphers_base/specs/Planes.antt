@@ -37,12 +37,12 @@ below i r c = (r + i) % 4 + 4 * c
 abbrev pub shifted_from : ℕ → ℕ → ℕ
 shifted_from r c = r + 4 * ((c + r) % 4)
 
--- the bit of each byte of n blocks is moved, in the plane new, to row r and column c from the byte `from r c` of the plane old
+-- for each of n blocks: the bit of its byte in row r and column c of the plane `new` is that of its byte `from r c` of the plane `old`
 abbrev pub Moves : (ℕ → ℕ → ℕ) → ℕ → (ℕ → ℕ → ℕ) → ℕ → ℕ → Type 0
 Moves place n from old new =
     (k r c : ℕ) → k < n → r < 4 → c < 4 → bit_at new (place k (r + 4 * c)) ≡ bit_at old (place k (from r c))
 
--- the same, of each byte in planes
+-- for each of n blocks: its byte in row r and column c of the planes `new` is its byte `from r c` of the planes `old`
 abbrev pub MovesBytes : (ℕ → ℕ → ℕ) → ℕ → (ℕ → ℕ → ℕ) → List ℕ → List ℕ → Type 0
 MovesBytes place n from old new =
     (k r c : ℕ) → k < n → r < 4 → c < 4 → plane_byte new (place k (r + 4 * c)) ≡ plane_byte old (place k (from r c))
@@ -56,7 +56,7 @@ HoldsRound place k w j planes =
 unfoldable pub word_bit : List ℕ → ℕ → ℕ
 word_bit words n = bit_at (slice_index words (n / 64)) (n % 64)
 
--- the bit of eight words that moves to bit n when digit k of each place is exchanged with the highest digit of the
--- word's number, and the digits of the number are then rotated: the highest becomes the lowest
+-- the bit of eight words that moves to bit n when digit k of each bit's place in its word is exchanged with the highest digit
+-- of the word's index, and the digits of the index are then rotated: the highest becomes the lowest
 abbrev pub exchanged_from : ℕ → ℕ → ℕ
 exchanged_from k n = 64 * (n / 128 + 4 * bit_at n k) + (n % 64 + n / 64 % 2 * 2 ^ k - bit_at n k * 2 ^ k)

@@ -1,4 +1,4 @@
--- The value of a `Work` in contracts: the numbers of cipher blocks and field products that were counted.
+-- What a contract sees of a `Work`: the numbers of cipher blocks and field products that were counted.
 use Rattle.std.specs.Prelude.{◌≡◌, ℕ, ◌+◌, ◌<◌, ◌≤◌, ◌^◌}
 
 pub record Tallies : Type 0 where
@@ -13,6 +13,6 @@ Adds was now blocks products = (now.blocks ≡ was.blocks + blocks) × (now.prod
 abbrev pub CanAdd : Tallies → ℕ → ℕ → Type 0
 CanAdd work blocks products = (work.blocks + blocks < 2 ^ 64) × (work.products + products < 2 ^ 64)
 
--- enough room for one seal or open
+-- both tallies have room for one seal or open
 abbrev pub HasRoom : Tallies → Type 0
 HasRoom work = (work.blocks ≤ 2 ^ 62) × (work.products ≤ 2 ^ 62)

@@ -94,7 +94,7 @@ impl<'a> KeyBytes<'a> {
 /// CMAC of one block, under a key whose first subkey is kept. From `crates/xaes/src/cmac.rt`:
 ///
 /// ```
-/// fn of_block(&self, block: Block) -> Block
+/// fn mac_of_block(&self, block: Block) -> Block
 ///     ensures { result ≡ cmac_of_block self.now block }
 /// {
 ///     self.cipher
@@ -187,7 +187,7 @@ impl Key {
     }
 
     /// Borrows the key as a `KeyRef`.
-    fn by_ref(&self) -> KeyRef<'_>
+    fn as_key_ref(&self) -> KeyRef<'_>
         ensures { result ≡ self.now }
     {
         KeyRef {
@@ -202,7 +202,7 @@ impl Key {
         ensures { (k : ℕ) → k < 4
             → slice_index_or result k [] ≡ aes self.now (slice_index_or blocks k []) }
     {
-        self.by_ref().encrypt_four(blocks)
+        self.as_key_ref().encrypt_four(blocks)
     }
 
     /// Computes the header protection mask of a sample (RFC 9001 section 5.4.3): 16 bytes in, 5 bytes out.
@@ -283,7 +283,7 @@ impl EncryptBlock for Key {
     ghost length_cipher = { λ key block _. length_aes key block };
 
     fn encrypt_block(&self, block: Block, work: &mut Work) -> Block {
-        self.by_ref().encrypt_block(block, work)
+        self.as_key_ref().encrypt_block(block, work)
     }
 }
 
@@ -296,6 +296,7 @@ impl EncryptCtr32 for Key {
     ) {
         let Overlapping { in_out, start } = in_out;
         let in_out = Overlapping::within(in_out, start);
-        self.by_ref().ctr32_encrypt_within(in_out, counter, work);
+        self.as_key_ref()
+            .ctr32_encrypt_within(in_out, counter, work);
     }
 }

@@ -7,7 +7,7 @@ use crate::error::Unspecified;
 
 /// Verifies that two slices are equal. Fails with `Unspecified` if they differ.
 ///
-/// If their lengths are equal, the loop goes on to the last byte wherever they differ. No clause says so.
+/// For slices of one length the loop reads every byte, wherever they differ. No clause says so.
 #[tactic(auto, using(crate::proofs::BytesLemmas::same_more))]
 pub fn verify_slices_are_equal(a: &[u8], b: &[u8]) -> Result<(), Unspecified>
     ensures { IsOk result ↔ (a.now ≡ b.now) }
@@ -26,8 +26,8 @@ pub fn verify_slices_are_equal(a: &[u8], b: &[u8]) -> Result<(), Unspecified>
     }
 }
 
-/// Returns whether `difference` is 0. It is a call, so that a compiler computes `difference` from all bytes, and does not
-/// compare them one by one up to the first that differs.
+/// Returns whether `difference` is 0. Not inlined, so that the compiler computes `difference` from all bytes instead of
+/// returning at the first that differs.
 #[inline(never)]
 fn is_zero(difference: u8) -> bool
     ensures { IsTrue result ↔ (difference ≡ 0) }

@@ -212,7 +212,7 @@ impl Key {
         let counter = Counter {
             words: le_words(&sample),
         };
-        let block = self.block(&counter, 0);
+        let block = self.keystream_block(&counter, 0);
         let mut mask = [0; 5];
         mask.copy_from_slice(&block[..5]);
         mask
@@ -231,12 +231,18 @@ impl Key {
         while BLOCK_LEN * j < len {
             let at = BLOCK_LEN * j;
             if len - at >= BATCH_LEN {
-                let stream = self.four_blocks(counter, j as u32);
+                let stream = self.four_keystream_blocks(counter, j as u32);
                 xor_stream(in_out, start, at, BATCH_LEN, stream);
                 j += 4;
             } else {
                 let n = BLOCK_LEN.min(len - at);
-                xor_stream(in_out, start, at, n, self.block(counter, j as u32));
+                xor_stream(
+                    in_out,
+                    start,
+                    at,
+                    n,
+                    self.keystream_block(counter, j as u32),
+                );
                 j += 1;
             }
         }
@@ -244,7 +250,7 @@ impl Key {
 
     /// Returns block `j` of the keystream after the counter.
     #[tactic(auto, unfolding(crate::specs::ChaCha20::chacha20_block))]
-    fn block(&self, counter: &Counter, j: u32) -> [u8; BLOCK_LEN]
+    fn keystream_block(&self, counter: &Counter, j: u32) -> [u8; BLOCK_LEN]
         requires { counter.now.number + j < 2 ^ 32 }
         ensures { result ≡ chacha20_block self.now (counter.now.number + j) counter.now.nonce }
     {
@@ -252,9 +258,9 @@ impl Key {
     }
 
     /// Returns four blocks of the keystream, from block `j` after the counter on.
-    fn four_blocks(&self, counter: &Counter, j: u32) -> [u8; BATCH_LEN]
+    fn four_keystream_blocks(&self, counter: &Counter, j: u32) -> [u8; BATCH_LEN]
         requires { counter.now.number + j + 4 ≤ 2 ^ 32 }
-        ensures { result ≡ each_below 256 (stream_byte self.now (counter.now.number + j) counter.now.nonce) }
+        ensures { result ≡ each_below BATCH_LEN (stream_byte self.now (counter.now.number + j) counter.now.nonce) }
     {
         let words = lanes::four_blocks(&self.initial_state(counter, j));
         let mut bytes = [0; BATCH_LEN];

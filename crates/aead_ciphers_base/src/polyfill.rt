@@ -1,3 +1,3 @@
-//! Functionality that the standard library may provide one day.
+//! Views of slices that the standard library may provide one day.
 
 pub mod slice;

@@ -36,7 +36,7 @@ module _ (key nonce : List ℕ) where
     XaesOpened tag start old accepts new =
         Opened (aes (message_key key nonce)) (message_nonce nonce) aad tag start old accepts new
 
-    -- the same if the tag is the last 16 bytes of the buffer
+    -- whether opening accepts, and what the buffer then holds, if the tag is the end of the buffer (`OpenedAttached` of `Gcm.antt`)
     abbrev pub XaesOpenedAttached : (start : ℕ) (old : List ℕ) (accepts : Bool) (new : List ℕ) → Type 0
     XaesOpenedAttached start old accepts new =
         OpenedAttached (aes (message_key key nonce)) (message_nonce nonce) aad start old accepts new

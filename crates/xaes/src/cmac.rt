@@ -1,4 +1,4 @@
-//! Deriving keys: CMAC (SP 800-38B) over AES-256 in counter mode (SP 800-108r1).
+//! The derivation of keys by CMAC (SP 800-38B) over AES-256 in counter mode (SP 800-108r1).
 
 ghost use Rattle.std.specs.Prelude.{◌≡◌, ◌++◌};
 ghost use Rattle.aead_ciphers_base.specs.Aes.{aes};
@@ -22,7 +22,7 @@ const LABEL: u8 = b'X';
 /// R of SP 800-38B section 5.3, as a number: 10000111.
 const R: u128 = 0x87;
 
-/// The first subkey K1 of CMAC, given the encrypted zero block (SP 800-38B section 6.1).
+/// Returns the first subkey K1 of CMAC, given the encrypted zero block (SP 800-38B section 6.1).
 fn subkey_of(cipher_of_zero: Block) -> Block
     ensures { result ≡ first_subkey cipher_of_zero }
 {
@@ -31,7 +31,7 @@ fn subkey_of(cipher_of_zero: Block) -> Block
     ((number << 1) ^ (fell_out * R)).to_be_bytes()
 }
 
-/// The first subkey K1 of CMAC under the key of this cipher.
+/// Returns the first subkey K1 of CMAC under the key of this cipher.
 pub(crate) fn first_subkey(cipher: &BlockKeyRef<'_>) -> Block
     ensures { result ≡ first_subkey (aes cipher.now zero_block) }
 {
@@ -59,7 +59,7 @@ impl<'k> Model for Cmac<'k> {
 }
 
 impl<'k> Cmac<'k> {
-    /// CMAC under the key of this cipher, whose first subkey this is.
+    /// Creates CMAC under the key of `cipher`, whose first subkey is `subkey`.
     pub(crate) fn new(cipher: BlockKeyRef<'k>, subkey: Block) -> Self
         requires { subkey ≡ first_subkey (aes cipher zero_block) }
         ensures { result ≡ cipher.entry }
@@ -67,22 +67,22 @@ impl<'k> Cmac<'k> {
         Cmac { cipher, subkey }
     }
 
-    /// CMAC of a message of one block (SP 800-38B section 6.2).
+    /// Computes CMAC of a message of one block (SP 800-38B section 6.2).
     #[tactic(auto, unfolding(crate::specs::Derivation::cmac_of_block))]
-    fn of_block(&self, block: Block) -> Block
+    fn mac_of_block(&self, block: Block) -> Block
         ensures { result ≡ cmac_of_block self.now block }
     {
         self.cipher
             .encrypt_block(bb::xor_16(self.subkey, block), &mut Work::new())
     }
 
-    /// One iteration of the derivation (SP 800-108r1 section 4.1): 16 bytes.
+    /// Returns one iteration of the derivation (SP 800-108r1 section 4.1), 16 bytes.
     fn derived_block(&self, context: &Context, iteration: u16) -> Block
         ensures { result ≡ derived_block self.now context.now iteration }
     {
         let [i0, i1] = iteration.to_be_bytes();
         let [c0, c1, c2, c3, c4, c5, c6, c7, c8, c9, c10, c11] = *context;
-        self.of_block([
+        self.mac_of_block([
             i0, i1, LABEL, 0, c0, c1, c2, c3, c4, c5, c6, c7, c8, c9, c10, c11,
         ])
     }

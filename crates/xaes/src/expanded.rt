@@ -2,7 +2,7 @@
 
 ghost use Rattle.std.specs.Prelude.{◌≡◌, ◌-◌, ◌↔◌, length, is_ok, IsOk, IfOk, OnOk, OnErr};
 ghost use Rattle.aead_ciphers_base.specs.Values.{aad_bytes};
-ghost use Rattle.aead_ciphers.specs.Gcm.{Fits};
+ghost use Rattle.aead_ciphers.specs.Gcm.{Fits, tag_len};
 ghost use Rattle.aead_ciphers_wide.specs.ExpandedKey.{IsExpanded as IsGcmKey, bytes_of as gcm_key_bytes};
 ghost use Rattle.aead_ciphers_wide.specs.Width.{width_bits};
 ghost use Rattle.xaes.specs.Expanded.{IsExpanded, bytes_of, message_width, zero_key};
@@ -74,7 +74,7 @@ impl ExpandedKey {
         )
     }
 
-    /// The width of the planes on which messages are encrypted.
+    /// Returns the width of the planes on which messages are encrypted.
     fn width(&self) -> Width
         ensures { width_bits result ≡ message_width self.now }
     {
@@ -184,7 +184,7 @@ impl ExpandedKey {
         requires { IsExpanded self.now }
         ensures opened { XaesOpenedAttached (bytes_of self.now) nonce (aad_bytes aad.entry)
             ciphertext_and_tag.start in_out.old (is_ok result) in_out.new }
-        ensures count { IfOk result (λ n. n ≡ length in_out.old - 16 - ciphertext_and_tag.start) }
+        ensures count { IfOk result (λ n. n ≡ length in_out.old - tag_len - ciphertext_and_tag.start) }
         ensures refused { OnErr result (in_out.new ≡ in_out.old) }
     {
         let mut key = aes_gcm::ExpandedKey::zeros();

@@ -1,8 +1,8 @@
-//! The key whose calls take the nonce as an argument.
+//! The key of XAES-256-GCM, whose calls take the nonce as an argument.
 
 ghost use Rattle.std.specs.Prelude.{◌≡◌, ◌+◌, ◌-◌, ◌↔◌, ◌++◌, length, is_ok, IsOk, IfOk, OnOk, OnErr};
 ghost use Rattle.aead_ciphers_base.specs.Values.{aad_bytes};
-ghost use Rattle.aead_ciphers.specs.Gcm.{Fits};
+ghost use Rattle.aead_ciphers.specs.Gcm.{Fits, tag_len};
 ghost use Rattle.xaes.specs.Derivation.{derived_block, derived_key};
 ghost use Rattle.xaes.specs.Expanded.{IsExpanded, bytes_of};
 ghost use Rattle.xaes.specs.Xaes.{XaesOpened, XaesOpenedAttached, xaes_decrypted, xaes_encrypted, xaes_sealed, xaes_tag};
@@ -143,7 +143,7 @@ impl Xaes256Gcm {
         ensures sealed { OnOk result (B.bytes in_out.new
             ≡ xaes_sealed self.now nonce (aad_bytes aad.entry) (B.bytes in_out.old)) }
         ensures refused { OnErr result (B.bytes in_out.new ≡ B.bytes in_out.old) }
-        ensures length { OnOk result (length (B.bytes in_out.new) ≡ length (B.bytes in_out.old) + 16) }
+        ensures length { OnOk result (length (B.bytes in_out.new) ≡ length (B.bytes in_out.old) + tag_len) }
         ensures granted { IsOk result → B.may_grant in_out.old }
         ensures fits { IsOk result → Fits (length (aad_bytes aad.entry)) (length (B.bytes in_out.old)) }
         ensures refuses { OnErr result (Fits (length (aad_bytes aad.entry)) (length (B.bytes in_out.old))
@@ -225,7 +225,7 @@ impl Xaes256Gcm {
     ) -> Result<usize, Unspecified>
         ensures opened { XaesOpenedAttached self.now nonce (aad_bytes aad.entry) ciphertext_and_tag.start
             in_out.old (is_ok result) in_out.new }
-        ensures count { IfOk result (λ n. n ≡ length in_out.old - 16 - ciphertext_and_tag.start) }
+        ensures count { IfOk result (λ n. n ≡ length in_out.old - tag_len - ciphertext_and_tag.start) }
         ensures refused { OnErr result (in_out.new ≡ in_out.old) }
     {
         self.expanded
@@ -241,7 +241,7 @@ impl Xaes256Gcm {
     ) -> Result<usize, Unspecified>
         ensures opened { XaesOpenedAttached self.now nonce (aad_bytes aad.entry) 0
             in_out.old (is_ok result) in_out.new }
-        ensures count { IfOk result (λ n. n ≡ length in_out.old - 16) }
+        ensures count { IfOk result (λ n. n ≡ length in_out.old - tag_len) }
         ensures refused { OnErr result (in_out.new ≡ in_out.old) }
     {
         self.open_within_to_front(nonce, aad, in_out, 0..)

@@ -1,4 +1,4 @@
-//! Nonces of 24 bytes.
+//! The nonces of XAES-256-GCM, of 24 bytes.
 
 ghost use Rattle.std.specs.Prelude.{◌≡◌, ◌↔◌, length, drop, take, IsOk, IfOk};
 

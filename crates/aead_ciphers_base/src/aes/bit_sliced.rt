@@ -10,7 +10,7 @@ use super::round::{add_round_key, mix_columns, shift_rows};
 use super::tower::sub_bytes;
 use super::{Block, KeyRef};
 
-/// A round key, in each block of eight planes.
+/// A round key that eight planes hold, once in each of their blocks.
 pub trait RoundKeyPlanes<P: Plane> {
     // The numbers of the planes.
     ghost held: { Self → List ℕ };
@@ -29,8 +29,8 @@ impl RoundKeyPlanes<u64> for [u64; 8] {
     }
 }
 
-/// Applies AddRoundKey and the rounds before round `last` to each block (FIPS 197 section 5.1), by the round keys of the words
-/// `w` that the planes of the round keys hold in that block.
+/// Applies AddRoundKey and the rounds before round `last` to each block (FIPS 197 section 5.1). In the contract, `w` is a key
+/// schedule whose words the planes of the round keys hold in that block.
 #[inline(always)]
 pub fn first_rounds<P: Plane, K: RoundKeyPlanes<P>>(
     planes: [P; 8],

@@ -1,4 +1,4 @@
-//! Counter mode in batches of four blocks (SP 800-38D section 6.5).
+//! AES counter mode in batches of four blocks (SP 800-38D section 6.5).
 
 ghost use Rattle.std.specs.Prelude.{◌≡◌, ◌≤◌, ◌-◌, ◌/◌, ◌%◌, length};
 ghost use Rattle.aead_ciphers_base.specs.Aes.{aes};
@@ -43,7 +43,7 @@ fn encrypt_batch(
 )
     requires within { start ≤ length in_out.old }
     requires whole { (length in_out.old - start) % 16 ≡ 0 }
-    requires short { length in_out.old - start ≤ 64 }
+    requires short { length in_out.old - start ≤ BATCH_LEN }
     requires sums { CanAdd work.old ((length in_out.old - start) / 16) 0 }
     ensures output { EncryptsToFront (aes key.now) counter.old start in_out.old in_out.new }
     ensures counter { Advances counter.old counter.new ((length in_out.old - start) / 16) }

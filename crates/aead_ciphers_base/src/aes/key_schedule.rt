@@ -1,4 +1,4 @@
-//! The key schedule (FIPS 197 section 5.2), with SubWord computed on planes.
+//! The AES key schedule (FIPS 197 section 5.2), with SubWord computed on planes.
 
 ghost use Rattle.std.specs.Prelude.{◌≡◌, ◌+◌, ◌-◌, ◌*◌, ◌/◌, ◌%◌, ◌<◌, ◌≤◌, ◌⊎◌, ℕ, length, take, slice_index};
 ghost use Rattle.aead_ciphers_base.specs.Bytes.{◌⊕◌};
@@ -27,7 +27,7 @@ fn rot_word(a: [u8; 4]) -> [u8; 4]
     [a[1], a[2], a[3], a[0]]
 }
 
-/// The planes hold the bytes of the word in every eighth of the 64 places.
+/// Applies the S-box to each byte of a word, on planes that hold these bytes in every eighth of their 64 places.
 fn sub_word(a: [u8; 4]) -> [u8; 4]
     ensures { result ≡ sub_word a }
 {

@@ -1,4 +1,4 @@
-//! Packing four blocks into eight planes, and unpacking them.
+//! Packing four AES blocks into eight bit planes, and unpacking them.
 //!
 //! If the blocks are read as eight little-endian words, bit `b` of byte `8 * i + j` is bit `8 * j + b` of
 //! word `i`. Two transpositions move it to bit `8 * i + j` of plane `b`.
@@ -35,8 +35,8 @@ fn delta_swap(a: u64, b: u64, k: usize) -> (u64, u64)
     (a ^ (delta << shift), b ^ delta)
 }
 
-/// Exchanges digit `k` of each place with the highest digit of the word's number, and then rotates the
-/// digits of the number: the highest becomes the lowest.
+/// Exchanges digit `k` of each bit's place in its word with the highest digit of the word's index, and
+/// then rotates the digits of the index: the highest becomes the lowest.
 #[inline(always)]
 fn exchange_digits(words: [u64; 8], k: usize) -> [u64; 8]
     requires { k < 6 }

@@ -1,4 +1,4 @@
-//! The words that planes consist of.
+//! The trait `Plane`, of words that have one bit of each byte of some blocks.
 
 ghost use Rattle.std.specs.Prelude.{◌≡◌, ◌<◌, ◌/◌, ℕ, bit_xor, bit_and};
 ghost use Rattle.std.specs.Int.{bit_at};
@@ -6,7 +6,7 @@ ghost use Rattle.aead_ciphers_base.specs.Planes.{Moves, below, place_of_four, pl
 
 use std::ops::{BitAnd, BitXor};
 
-/// A word of bits, one of each byte of some blocks.
+/// A word that has one bit of each byte of some blocks.
 pub trait Plane: Copy + BitXor<Self, Output = Self> + BitAnd<Self, Output = Self> {
     // The number with these bits.
     ghost number: { Self → ℕ };

@@ -1,4 +1,4 @@
-//! The steps of a round on planes (FIPS 197 section 5.1), except SubBytes.
+//! The steps of an AES round on planes (FIPS 197 section 5.1), except SubBytes.
 
 ghost use Rattle.std.specs.Prelude.{◌≡◌, ◌<◌, ◌/◌, ℕ, List, map, bit_xor};
 ghost use Rattle.aead_ciphers_base.specs.Aes.{add_round_key, mix_columns, shift_rows};

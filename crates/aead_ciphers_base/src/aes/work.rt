@@ -1,4 +1,4 @@
-//! Tallies of what was computed, so that a contract can say how much a call computes.
+//! Tallies of cipher blocks and field products, so that a contract can say how much a call computes.
 
 ghost use Rattle.std.specs.Prelude.{◌≡◌, ◌↔◌, IsTrue};
 ghost use Rattle.aead_ciphers_base.specs.Work.{Adds, CanAdd, HasRoom};

@@ -1,4 +1,4 @@
-//! The block function (RFC 8439 section 2.3) on four states at a time, side by side in vectors.
+//! ChaCha20's block function (RFC 8439 section 2.3) on four states at a time, side by side in vectors.
 
 ghost use Rattle.std.specs.Prelude.{◌≡◌, ◌<◌, ℕ, ◌+◌, ◌*◌, List, slice_index, slice_set};
 ghost use Rattle.std.specs.Fn.{iterate};

@@ -1,4 +1,4 @@
-//! The block function (RFC 8439 section 2.3) on one state, whose four rows are vectors.
+//! ChaCha20's block function (RFC 8439 section 2.3) on one state, whose four rows are vectors.
 
 ghost use Rattle.std.specs.Prelude.{◌≡◌};
 ghost use Rattle.aead_ciphers_base.specs.ChaCha20.{double_round, state_block};

@@ -1,4 +1,4 @@
-//! A slice and a start: the input is the slice from the start on, and the output is its front.
+//! `Overlapping`, a slice with a start: the input is the slice from the start on, and the output is its front.
 
 ghost use Rattle.std.specs.Prelude.{◌≡◌, ◌↔◌, ◌-◌, ◌<◌, ◌≤◌, ◌++◌, IsOk, IfOk, IfErr, drop, length, take};
 ghost use Rattle.std.specs.Borrow.{sem};

@@ -1,4 +1,4 @@
-//! Chunks of a fixed number of items, for closures that map them.
+//! The trait of chunks of a fixed number of items, which closures map.
 
 ghost use Rattle.std.specs.Prelude.{◌≡◌, ◌↔◌, ℕ, ◌+◌, ◌≤◌, List, IsSome, IfSome, drop, length, take};
 ghost use Rattle.aead_ciphers_base.specs.Overlapping.{MapsChunk, TakesChunk};

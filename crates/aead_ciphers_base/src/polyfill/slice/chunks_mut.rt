@@ -149,7 +149,7 @@ fn chunks_of_blocks<T, const N: usize, const CHUNK_LEN: usize>(
     ensures rest { chunks_mut_rest result.chunks ≡ items.old }
     ensures size { 0 < N → chunks_mut_size result.chunks ≡ CHUNK_LEN * N }
 {
-    // If `N` is zero: std takes no size of 0.
+    // At least 1, since std's `chunks_mut` takes no size of 0, and `N` may be zero.
     let size = (CHUNK_LEN * N).max(1);
     AsChunksMutChunksMutIter {
         chunks: items.chunks_mut(size),

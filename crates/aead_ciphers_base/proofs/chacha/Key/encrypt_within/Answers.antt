@@ -12,13 +12,13 @@ loop-j-init c = record { within = omega arith; written = refl }
 
 pub loop-j-preserved-then-len-at-ge-BATCH_LEN : goal.loop-j-preserved-then-len-at-ge-BATCH_LEN
 loop-j-preserved-then-len-at-ge-BATCH_LEN c =
-    let size : length c.four_blocks-stream.result ≡ 256 = search rules in
+    let size : length c.four_keystream_blocks-stream.result ≡ 256 = search rules in
     record {
       within = omega arith;
       written =
           c.xor_stream.ensures
           ∙ written_more _ _ _ _ c.loop-j.j 4 256 _ _ _ c.loop-j.invariant.written
-          (take_all 256 c.four_blocks-stream.result (omega arith) ∙ c.four_blocks-stream.ensures) (omega arith) (omega arith);
+          (take_all 256 c.four_keystream_blocks-stream.result (omega arith) ∙ c.four_keystream_blocks-stream.ensures) (omega arith) (omega arith);
     }
 
 pub loop-j-preserved : goal.loop-j-preserved
@@ -28,6 +28,6 @@ loop-j-preserved c =
       written =
           c.xor_stream-else-len-at-ge-BATCH_LEN.ensures
           ∙ written_more _ _ _ _ c.loop-j.j 1 c.min-n.result _ _ _ c.loop-j.invariant.written
-          (block-stream _ _ _ c.block.result c.min-n.result c.block.ensures (search rules) (omega (arith, c.min-n.ensures)))
+          (block-stream _ _ _ c.keystream_block.result c.min-n.result c.keystream_block.ensures (search rules) (omega (arith, c.min-n.ensures)))
           (omega arith) c.min-n.ensures;
     }

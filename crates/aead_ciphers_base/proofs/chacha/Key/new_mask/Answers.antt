@@ -19,4 +19,4 @@ returns c =
     ap (λ ws. le_bytes (drop 1 ws)) words
     ∙ le_bytes-le_words 3 (drop 4 c.args.sample) (simp length-drop (omega arith)) (λ i. rw get_or-drop (bytes (4 + i))) in
     c.copy_from_slice.ensures.after
-    ∙ ap (take 5) (c.block-block.ensures ∙ ap₂ (λ (k : ℕ) (n : List ℕ). chacha20_block c.args.self.now k n) number nonce)
+    ∙ ap (take 5) (c.keystream_block-block.ensures ∙ ap₂ (λ (k : ℕ) (n : List ℕ). chacha20_block c.args.self.now k n) number nonce)

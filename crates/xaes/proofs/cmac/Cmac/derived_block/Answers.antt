@@ -13,6 +13,6 @@ pub returns : goal.returns
 unfolding derived_block
 returns c =
     let number : c.to_be_bytes.result ≡ to_be_bytes w16 c.args.iteration = c.to_be_bytes.ensures in
-    c.of_block.ensures
+    c.mac_of_block.ensures
     ∙ ap₂ (λ xs ys. cmac_of_block c.args.self.now (xs ++ 88 ∷ 0 ∷ ys))
     (items 2 c.to_be_bytes.result (ap length number) ∙ number) (items 12 c.args.context.now c.told-context)

@@ -1,4 +1,5 @@
--- The front of the slice that the buffer holds is lent as an array. This walks the two calls by hand.
+-- The front of the slice that the buffer holds is lent as an array.
+-- This walks the two calls by hand; brackets name the entries of the context, as `Walks` says.
 use Rattle.aead_ciphers_base.proofs
 use proofs.WalkNames as Names
 use proofs.WalkNames.{‵, ◌≡◌, refl, ap, ◌∙◌, List, [], ◌∷◌, ◌++◌, ◌≤◌, length, named, GName, ◌$◌, !, move, Items, Is}

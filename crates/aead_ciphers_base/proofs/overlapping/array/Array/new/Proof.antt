@@ -1,4 +1,5 @@
--- The buffer is handed on, or its slice is let go as it came. This walks the code by hand.
+-- The buffer is handed on, or its slice is let go as it came.
+-- This walks the code by hand; brackets name the entries of the context, as `Walks` says.
 use Rattle.aead_ciphers_base.proofs
 use proofs.WalkNames as Names
 use proofs.WalkNames.{‵, ◌≡◌, refl, ap, ◌∙◌, List, [], ◌∷◌, ℕ, ◌-◌, ◌^◌, ◌<◌, length, w64, Val, ◌$◌, !, move, sub, agg, fld, lit, bin, get, sets, Is, number}

@@ -1,4 +1,5 @@
--- The front of the slice that the struct holds is handed on. This walks the code by hand.
+-- The front of the slice that the struct holds is handed on.
+-- This walks the code by hand; brackets name the entries of the context, as `Walks` says.
 use Rattle.aead_ciphers_base.proofs
 use proofs.WalkNames as Names
 use proofs.WalkNames.{‵, ◌≡◌, refl, [], ◌∷◌, ◌++◌, ◌-◌, ◌^◌, ◌<◌, length, take, ◌$◌, !, move, whole, sub, stop, fld, from, sets}

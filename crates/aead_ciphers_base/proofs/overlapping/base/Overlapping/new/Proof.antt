@@ -1,4 +1,5 @@
--- The slice is handed on, or let go as it came. This walks the code by hand.
+-- The slice is handed on, or let go as it came.
+-- This walks the code by hand; brackets name the entries of the context, as `Walks` says.
 use Rattle.aead_ciphers_base.proofs
 use proofs.WalkNames as Names
 use proofs.WalkNames.{‵, ◌≡◌, refl, ap, ◌∙◌, List, [], ◌∷◌, ◌≤◌, length, w64, Val, ◌$◌, !, move, agg, get, sets, Is}

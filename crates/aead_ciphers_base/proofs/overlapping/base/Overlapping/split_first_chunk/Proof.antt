@@ -1,4 +1,5 @@
--- The slice after the first chunk is handed on after the chunk was mapped, or the slice is let go. This walks the code by hand.
+-- The slice after the first chunk is handed on after the chunk was mapped, or the slice is let go.
+-- This walks the code by hand; brackets name the entries of the context, as `Walks` says.
 use Rattle.aead_ciphers_base.proofs
 use proofs.WalkNames as Names
 use proofs.WalkNames.{◌≡◌, refl, ap, ◌∙◌, List, [], ◌∷◌, ◌++◌, ℕ, ◌+◌, ◌-◌, ◌*◌, ◌^◌, ◌<◌, ◌≤◌, arith, length, drop_list, w64, dcons, Val, vint, Fits, GName, ‵, ◌$◌, !, move, use1, whole, sub, agg, stop, fld, of_opd, bin, get, sets, Is, ◌↔◌}

@@ -1,4 +1,5 @@
--- The slice is lent in two parts, the first of them in a view. This walks the code by hand.
+-- The slice is lent in two parts, the first of them in a view.
+-- This walks the code by hand; brackets name the entries of the context, as `Walks` says.
 use Rattle.aead_ciphers_base.proofs
 use proofs.WalkNames as Names
 use proofs.WalkNames.{◌≡◌, refl, ap, ◌∙◌, [], ◌∷◌, ◌++◌, ◌+◌, ◌*◌, ◌/◌, ◌%◌, ◌<◌, length, ‵, ◌$◌, !, move, sets}

@@ -1,4 +1,5 @@
--- The items of a view are lent through the `&mut` to the view, which follows them. This walks the code by hand.
+-- The items of a view are lent through the `&mut` to the view, which follows them.
+-- This walks the code by hand; brackets name the entries of the context, as `Walks` says.
 use Rattle.aead_ciphers_base.proofs
 use proofs.WalkNames as Names
 use proofs.WalkNames.{◌≡◌, refl, sym, ◌∙◌, List, [], ◌∷◌, ◌++◌, ℕ, length, Val, ent, fsep, fbor, sem, ‵, ◌⊛◌, ◌$◌, ◌∵◌, !, qed, move, fsplit, use1, rewrite, done, sub, fld, sets, Arr, mem, param, number}

@@ -1,4 +1,5 @@
--- The items that `as_flattened_mut` lends are handed on in a view. This walks the code by hand.
+-- The items that `as_flattened_mut` lends are handed on in a view.
+-- This walks the code by hand; brackets name the entries of the context, as `Walks` says.
 use Rattle.aead_ciphers_base.proofs
 use proofs.WalkNames as Names
 use proofs.WalkNames.{refl, ap, ◌∙◌, [], ◌∷◌, ◌%◌, ‵, ◌$◌, !, move}

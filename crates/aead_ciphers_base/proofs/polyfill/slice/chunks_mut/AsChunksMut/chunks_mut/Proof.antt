@@ -1,4 +1,5 @@
--- The items that `as_flattened_mut` lends are walked in chunks. This walks the two calls by hand.
+-- The items that `as_flattened_mut` lends are walked in chunks.
+-- This walks the two calls by hand; brackets name the entries of the context, as `Walks` says.
 use Rattle.aead_ciphers_base.proofs
 use proofs.WalkNames as Names
 use proofs.WalkNames.{refl, ◌∙◌, [], ◌∷◌, ◌%◌, ◌$◌, !, move, Is}

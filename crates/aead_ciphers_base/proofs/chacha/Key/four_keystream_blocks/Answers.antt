@@ -4,7 +4,7 @@ use Rattle.std.specs.Simd.Lanes.{zip2}
 use Rattle.aead_ciphers_base.specs.ChaCha20.{add32, double_round, initial_state}
 use Rattle.aead_ciphers_base.proofs
 use proofs.KeyStreamLemmas.{blocks-stream}
-use proofs.chacha.Key.four_blocks.Goals as goal
+use proofs.chacha.Key.four_keystream_blocks.Goals as goal
 
 pub returns : goal.returns
 returns c =
