@@ -45,7 +45,7 @@ ladder-same zero f g h = refl
 ladder-same (suc n) f g h =
     ap₂ (λ x y. x ⊕ step • y) (h 0 (omega arith)) (ladder-same n (λ i. f (suc i)) (λ i. g (suc i)) (λ i lt. h (suc i) (omega arith)))
 
--- a sum
+-- the ladder of f + g is the sum of their ladders
 pub ladder-xor : (n : ℕ) (f g : ℕ → List ℕ) → AllSizedAt f → AllSizedAt g → ladder n (λ i. f i ⊕ g i) ≡ ladder n f ⊕ ladder n g
 unfolding ladder
 ladder-xor zero f g hf hg = refl
@@ -58,7 +58,7 @@ ladder-xor (suc n) f g hf hg =
     ∙ ap (λ y. (f 0 ⊕ g 0) ⊕ y) (product_xor_right step F G Sized-step sf sg)
     ∙ xor_exchange (f 0) (g 0) (step • F) (step • G)
 
--- u^8 times each
+-- the ladder of u^8 f is u^8 times that of f
 pub ladder-step : (n : ℕ) (f : ℕ → List ℕ) → AllSizedAt f → ladder n (λ i. step • f i) ≡ step • ladder n f
 unfolding ladder
 ladder-step zero f h = sym (product_zero step Sized-step)
@@ -67,7 +67,7 @@ ladder-step (suc n) f h =
     ap (λ y. step • f 0 ⊕ step • y) (ladder-step n (λ i. f (suc i)) (λ i. h (suc i)))
     ∙ sym (product_xor_right step (f 0) (step • F) Sized-step (h 0) (Sized-product step F))
 
--- each times h
+-- the ladder of f h is that of f times h
 pub ladder-times : (n : ℕ) (f : ℕ → List ℕ) (h : List ℕ) → AllSizedAt f → Sized h → ladder n (λ i. f i • h) ≡ ladder n f • h
 unfolding ladder
 ladder-times zero f h hf sh = sym (product_comm zero_block h refl sh ∙ product_zero h sh)

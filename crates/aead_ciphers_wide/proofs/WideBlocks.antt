@@ -1,4 +1,4 @@
--- What holds of each of eight blocks.
+-- A fact of each of eight or sixteen blocks, from that of each one by itself.
 use Rattle.std.proofs.Common.{ℕ, ◌≡◌, ◌+◌, ◌-◌, ◌<◌, arith, inl, inr}
 use Rattle.std.proofs.lemmas.Bool.{cases_lt}
 use Rattle.aead_ciphers_base.proofs.PlaneBlocks.{by_four}

@@ -1,4 +1,4 @@
--- The running hash, block by block.
+-- The running GHASH, block by block and two blocks at a time.
 use Rattle.std.proofs.Common.{◌≡◌, ℕ, ◌<◌, ◌≤◌, List, [], ◌∷◌, ◌++◌, length, take, drop, refl, sym, subst, ap, ap₂, ◌∙◌, arith, append_assoc, append-nil, length-take-le, length-drop, drop-drop, take-take}
 use Rattle.std.proofs.lemmas.List.{drop-take}
 use Rattle.aead_ciphers_base.specs.Blocks.{blocks}
@@ -9,7 +9,7 @@ use Rattle.aead_ciphers.specs.HashOf.{IsHashOf}
 use Rattle.aead_ciphers_wide.specs.Products.{subkey}
 use Rattle.aead_ciphers.proofs.GhashLaws.{AllSized-append, ghash_more}
 
--- one block more, as the code takes it in
+-- one block more, as the code hashes it
 pub hash_one : (h xi block table next : List ℕ) (done : List (List ℕ)) → subkey table ≡ h → length block ≡ 16
     → next ≡ (xi ⊕ block) • subkey table → IsHashOf h done xi → IsHashOf h (done ++ block ∷ []) next
 unfolding subkey
@@ -26,7 +26,7 @@ pub record IsHashOfTaken (h : List ℕ) (done : List (List ℕ)) (items rest sum
   pub whole : taken ++ blocks 16 rest ≡ blocks 16 items
   pub hashed : IsHashOf h (done ++ taken) sum
 
--- the next block is taken
+-- the next block is hashed
 pub taken_one : (h sum items rest table next : List ℕ) (done : List (List ℕ)) → subkey table ≡ h → 16 ≤ length rest
     → next ≡ (sum ⊕ take 16 rest) • subkey table → IsHashOfTaken h done items rest sum
     → IsHashOfTaken h done items (drop 16 rest) next
@@ -49,7 +49,7 @@ taken_all h sum items rest done short at =
     let none = ap (λ xs. at.taken ++ xs) (sym (blocks_short 16 rest short)) in
     subst (λ xs. IsHashOf h (done ++ xs) sum) (sym (append-nil at.taken) ∙ none ∙ at.whole) at.hashed
 
--- the next two blocks are taken, by one product each, of which the code computes the sum
+-- the next two blocks are hashed, by one product each, of which the code computes the sum
 pub taken_two : (h sum items rest pair table next : List ℕ) (done : List (List ℕ))
     → subkey table ≡ h → 32 ≤ length rest → pair ≡ take 32 rest
     → next ≡ ((sum ⊕ take 16 (take 16 pair)) • subkey table ⊕ take 16 (take 16 (drop 16 pair))) • subkey table

@@ -1,4 +1,4 @@
--- The lanes of what operators make.
+-- The lanes of the words that operators return.
 use Rattle.std.proofs.Common.{◌≡◌, ℕ, zero, suc, ◌+◌, ◌-◌, ◌*◌, ◌/◌, ◌%◌, ◌^◌, ◌<◌, List, [], ◌∷◌, replicate, slice_index, shr-shr, refl, sym, subst, ap, ap₂, ◌∙◌, arith, bit_xor, bit_and}
 use Rattle.std.specs.Int.{bit_at}
 use Rattle.std.specs.Simd.Lanes.{zip2, number_l, Each1}

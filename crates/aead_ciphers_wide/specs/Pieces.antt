@@ -6,16 +6,16 @@ use Rattle.aead_ciphers_base.specs.Bytes.{zero_block}
 use Rattle.aead_ciphers_base.specs.CounterMode.{counter_mode}
 use Rattle.aead_ciphers.specs.Gcm.{Fits, gcm_encrypted, padded_blocks}
 use Rattle.aead_ciphers.specs.HashOf.{IsHashOf}
+use Rattle.aead_ciphers_wide.specs.declared.aes.ctr32.TheConstants.{BATCH_LEN}
 use Rattle.aead_ciphers_wide.specs.declared.aes_gcm.pieces.PartialHash.{PartialHash}
 use Rattle.aead_ciphers_wide.specs.declared.aes_gcm.pieces.SealState.{SealState}
 
--- the 128 bytes of keystream after n bytes of plaintext, which are whole blocks (section 6.5)
+-- the keystream of the batch after n bytes of plaintext, which are whole blocks (section 6.5)
 abbrev pub keystream : (List ℕ → List ℕ) → List ℕ → ℕ → List ℕ
-keystream cipher nonce n = counter_mode cipher nonce (2 + n / 16) (replicate 128 0)
+keystream cipher nonce n = counter_mode cipher nonce (2 + n / 16) (replicate BATCH_LEN 0)
 
 -- The state after pieces were sealed with `aad`: `message` is all of them in a row, and `ciphertext` what they became in a
--- row. That is whole batches of eight blocks, which are hashed, and then fewer than 128 bytes, which are kept before the
--- rest of their keystream.
+-- row. That is whole batches, which are hashed, and then less than a batch, which is kept before the rest of its keystream.
 pub record HasSealed (cipher : List ℕ → List ℕ) (nonce aad message ciphertext : List ℕ) (s : SealState) : Type 0 where
   pub encrypted : ciphertext ≡ gcm_encrypted cipher nonce message
   pub begun : 0 < s.begun
@@ -26,8 +26,8 @@ pub record HasSealed (cipher : List ℕ → List ℕ) (nonce aad message ciphert
   pub whole : List ℕ
   pub rest : List ℕ
   pub parts : ciphertext ≡ whole ++ rest
-  pub aligned : length whole % 128 ≡ 0
-  pub short : length rest < 128
+  pub aligned : length whole % BATCH_LEN ≡ 0
+  pub short : length rest < BATCH_LEN
   pub hashed : IsHashOf (cipher zero_block) (padded_blocks aad ++ padded_blocks whole) s.xi
   pub kept : 0 < length rest → s.batch ≡ rest ++ drop (length rest) (keystream cipher nonce (length whole))
 
@@ -39,7 +39,7 @@ pub record SealsPiece (cipher : List ℕ → List ℕ) (was : SealState) (piece 
 
 -- the fields of a message that has not begun, or that is finished: all zeros
 abbrev pub zero_state : SealState
-zero_state = record { xi = replicate 16 0; batch = replicate 128 0; aad_len = 0; len = 0; nonce = replicate 12 0; begun = 0 }
+zero_state = record { xi = replicate 16 0; batch = replicate BATCH_LEN 0; aad_len = 0; len = 0; nonce = replicate 12 0; begun = 0 }
 
 -- the parts, one after another
 abbrev pub joined : List (Bor (List ℕ)) → List ℕ
@@ -49,6 +49,6 @@ joined parts = concat (map (λ part. part.now) parts)
 pub record HasTaken (h bytes : List ℕ) (s : PartialHash) : Type 0 where
   pub whole : List ℕ
   pub parts : bytes ≡ whole ++ take s.len s.batch
-  pub aligned : length whole % 128 ≡ 0
-  pub short : s.len < 128
+  pub aligned : length whole % BATCH_LEN ≡ 0
+  pub short : s.len < BATCH_LEN
   pub hashed : IsHashOf h (padded_blocks whole) s.xi

@@ -13,11 +13,11 @@ stepped (suc n) block = monomial_block 8 • stepped n block
 unfoldable pub u128_times : List ℕ → List ℕ
 u128_times block = stepped 16 block
 
--- a byte shifted to the right by n bits, under the byte before it: that is its product with u^n
+-- the product of a byte and u^n: it is shifted to the right by n bits, into which those of the byte before it come
 abbrev pub shifted_byte : ℕ → ℕ → ℕ → ℕ
 shifted_byte n before b = (before * 2 ^ 8 + b) / 2 ^ n % 2 ^ 8
 
--- a byte, under the byte before it, times 1 + u + u^2 + u^7 (SP 800-38D section 6.3)
+-- the product of a byte and 1 + u + u^2 + u^7, with the bits that come from the byte before it (SP 800-38D section 6.3)
 abbrev pub folded_byte : ℕ → ℕ → ℕ
 folded_byte before b =
     bit_xor (bit_xor (bit_xor b (shifted_byte 1 before b)) (shifted_byte 2 before b)) (shifted_byte 7 before b)
@@ -30,8 +30,8 @@ first_byte b = b ∷ replicate 15 0
 abbrev pub column : List ℕ → ℕ → List ℕ
 column table n = each_below 16 (λ r. slice_index table (16 * r + n))
 
--- column n of a table is the product of h and the block whose first byte is 16 n, and column n of its second half that of h
--- and the block whose first byte is n
+-- column n of the first half of a table is the product of h and the block whose first byte is 16 n, and column n of the second half
+-- is the product of h and the block whose first byte is n
 pub record AreProducts (h table : List ℕ) : Type 0 where
   pub high : (n : ℕ) → n < 16 → column table n ≡ first_byte (16 * n) • h
   pub low : (n : ℕ) → n < 16 → column table (256 + n) ≡ first_byte n • h
@@ -40,13 +40,13 @@ pub record AreProducts (h table : List ℕ) : Type 0 where
 unfoldable pub subkey : List ℕ → List ℕ
 subkey table = column table 8
 
--- the sum of those of four numbers, from a place on, at which the digit n has a one, its highest bit first
+-- of the four numbers from a place on, the sum of those for which n has a one, where the highest of its four bits is for the first
 abbrev pub chosen_sum : ℕ → ℕ → List ℕ → ℕ
 chosen_sum n from numbers =
     let part = λ (k p : ℕ). if n / p % 2 == 1 then slice_index numbers (from + k) else 0 in
     bit_xor (bit_xor (bit_xor (part 0 8) (part 1 4)) (part 2 2)) (part 3 1)
 
--- the sum of those of two numbers at which the digit n in base 4 has a one, its higher bit first
+-- of two numbers, the sum of those for which n has a one, where the higher of its two bits is for the first
 abbrev pub chosen_of_two : ℕ → ℕ → ℕ → ℕ
 chosen_of_two n x y = bit_xor (if n / 2 % 2 == 1 then x else 0) (if n % 2 == 1 then y else 0)
 

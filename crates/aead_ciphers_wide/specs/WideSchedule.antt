@@ -30,7 +30,7 @@ pub record IsSchedule (round_keys : List (List ℕ)) (rounds : ℕ) : Type 0 whe
   pub in_range : rounds ≤ 14
   pub expanded : HoldsWords round_keys (schedule_words round_keys rounds) (rounds + 1)
 
--- of 15 places for round keys, or for the planes of each, those that a key of so many rounds doesn't use are zeros
+-- the places after the last round key of so many rounds, of 15 for round keys or for their planes, are zeros
 abbrev pub AreZerosAfter : List (List ℕ) → ℕ → Type 0
 AreZerosAfter rows rounds = (j : ℕ) → rounds < j → j < 15 → slice_index_or rows j [] ≡ replicate 16 0
 

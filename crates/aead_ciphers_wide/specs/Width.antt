@@ -1,4 +1,4 @@
--- The widths of planes.
+-- The widths of bit planes, in bits.
 use Rattle.std.specs.Prelude.{ℕ}
 use Rattle.aead_ciphers_wide.specs.declared.aes.Width.{Width}
 use Rattle.aead_ciphers_wide.specs.declared.aes.Width.TheVariants.{Bits128, Bits256}

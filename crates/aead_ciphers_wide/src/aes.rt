@@ -30,6 +30,7 @@ mod round_keys;
 mod transpose;
 
 pub use block_key::{BlockKey, BlockKeyRef};
+pub(crate) use ctr32::BATCH_LEN;
 pub(crate) use round_keys::joined;
 pub use round_keys::{RoundKeys, RoundPlanes, write_planes};
 
@@ -62,7 +63,7 @@ impl Width {
 #[derive(Clone, Drop)]
 pub struct Key {
     planes: RoundPlanes,
-    // Between the arrays: the compiler copies two that are next to each other as one, by way of the stack.
+    // Between the arrays, since the compiler copies two that are next to each other as one, by way of the stack.
     rounds: u32,
     width: u32,
     round_keys: RoundKeys,
@@ -119,7 +120,7 @@ impl Key {
     }
 
     /// Borrows the key as a `KeyRef`.
-    pub fn by_ref(&self) -> KeyRef<'_>
+    pub fn as_key_ref(&self) -> KeyRef<'_>
         ensures { result ≡ self.now }
     {
         KeyRef {
@@ -134,7 +135,7 @@ impl Key {
     pub fn new_mask(&self, sample: Sample) -> [u8; 5]
         ensures { result ≡ aes_mask self.now sample }
     {
-        self.by_ref().new_mask(sample)
+        self.as_key_ref().new_mask(sample)
     }
 }
 
@@ -194,7 +195,7 @@ impl<'k> KeyRef<'k> {
     }
 
     /// Borrows the round keys, for one block at a time.
-    fn by_block(&self) -> BlockKeyRef<'k>
+    fn as_block_key_ref(&self) -> BlockKeyRef<'k>
         ensures { result ≡ self.now }
     {
         BlockKeyRef::new(self.round_keys, self.rounds)
@@ -204,7 +205,7 @@ impl<'k> KeyRef<'k> {
     pub fn new_mask(&self, sample: Sample) -> [u8; 5]
         ensures { result ≡ aes_mask self.now sample }
     {
-        self.by_block().new_mask(sample)
+        self.as_block_key_ref().new_mask(sample)
     }
 }
 
@@ -214,7 +215,7 @@ impl<'k> EncryptBlock for KeyRef<'k> {
     ghost length_cipher = { λ key block _. length_aes key block };
 
     fn encrypt_block(&self, block: Block, work: &mut Work) -> Block {
-        self.by_block().encrypt_block(block, work)
+        self.as_block_key_ref().encrypt_block(block, work)
     }
 }
 
@@ -224,7 +225,7 @@ impl EncryptBlock for Key {
     ghost length_cipher = { λ key block _. length_aes key block };
 
     fn encrypt_block(&self, block: Block, work: &mut Work) -> Block {
-        self.by_ref().encrypt_block(block, work)
+        self.as_key_ref().encrypt_block(block, work)
     }
 }
 
@@ -237,6 +238,7 @@ impl EncryptCtr32 for Key {
     ) {
         let Overlapping { in_out, start } = in_out;
         let in_out = Overlapping::within(in_out, start);
-        self.by_ref().ctr32_encrypt_within(in_out, counter, work);
+        self.as_key_ref()
+            .ctr32_encrypt_within(in_out, counter, work);
     }
 }

@@ -48,8 +48,8 @@ pub struct ExpandedKey {
 }
 
 impl ExpandedKey {
-    /// Does the same as `expand`, for planes of this width, which the contract says (`width`). No byte of a key that was there
-    /// before stays.
+    /// Does the same as `expand`, for planes of this width, as the clause `width` says. No byte of a key that was there before
+    /// stays.
     pub fn expand_with_width(&mut self, bytes: KeyBytes<'_>, width: Width, work: &mut Work)
         requires { CanAdd work.old 1 0 }
         ensures expanded { IsExpanded self.new }

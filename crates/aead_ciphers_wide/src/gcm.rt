@@ -49,7 +49,7 @@ impl Key {
     }
 
     /// Borrows the key.
-    pub fn by_ref(&self) -> KeyRef<'_>
+    pub fn as_key_ref(&self) -> KeyRef<'_>
         ensures { result ≡ self.now }
     {
         KeyRef {
@@ -141,12 +141,12 @@ impl UpdateBlock for Key {
     ghost hash_subkey = { λ key. key };
 
     fn update_block(&self, xi: &mut Xi, block: Block, work: &mut Work) {
-        self.by_ref().update_block(xi, block, work);
+        self.as_key_ref().update_block(xi, block, work);
     }
 }
 
 impl UpdateBlocks for Key {
     fn update_blocks(&self, xi: &mut Xi, input: AsChunks<'_, u8, BLOCK_LEN>, work: &mut Work) {
-        self.by_ref().update_blocks(xi, input, work);
+        self.as_key_ref().update_blocks(xi, input, work);
     }
 }

@@ -1,4 +1,4 @@
-//! Words of lanes of 64 bits.
+//! The trait of words that consist of lanes of 64 bits.
 
 ghost use Rattle.std.specs.Prelude.{◌≡◌, ◌<◌, ◌*◌, ◌/◌, ◌%◌, ◌^◌, ℕ};
 ghost use Rattle.aead_ciphers_wide.specs.Word.{lane_of};

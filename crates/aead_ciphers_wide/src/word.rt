@@ -84,7 +84,7 @@ impl Word {
         self.lanes.to_le_bytes()
     }
 
-    /// Returns the number each of whose bytes has all bits of bit `bit` of that digit of `digits`, which are in base 16.
+    /// Returns the number whose byte `i` is 255 if bit `bit` of digit `i` is one, and 0 if it is zero. The digits are in base 16.
     #[inline(always)]
     pub fn filled(digits: u8x16, bit: usize) -> Self
         requires bit { bit < 4 }

@@ -1,4 +1,4 @@
-//! Keys for one block or two at a time: round keys alone, which the cipher by byte permutes reads.
+//! AES keys for one block or two at a time: round keys alone, which the cipher by byte permutes reads.
 
 ghost use Rattle.std.specs.Prelude.{◌≡◌};
 ghost use Rattle.aead_ciphers_base.specs.Aes.{aes, length_aes};

@@ -1,4 +1,4 @@
-//! Counter blocks in the bytes of words.
+//! Counter blocks as the bytes of words, for many blocks at a time.
 
 ghost use Rattle.std.specs.Prelude.{◌≡◌, ◌<◌, ◌+◌, ◌/◌, ◌%◌, ℕ, List, slice_index, take};
 ghost use Rattle.std.specs.Int.{to_le_bytes, w128};
@@ -29,7 +29,7 @@ pub fn counters(counter: &Counter) -> [Word; 8]
     ]
 }
 
-/// Returns the words whose halves have as bytes the counter block and the next fifteen, two in each word.
+/// Returns the counter block and the next fifteen, as the bytes of the halves of eight words.
 #[inline(always)]
 pub fn sixteen_counters(counter: &Counter) -> [WiderWord; 8]
     ensures { (nonce : List ℕ) (k : ℕ) → IsCounter counter.now nonce k → (i : ℕ) → i < 16
@@ -49,7 +49,7 @@ pub fn sixteen_counters(counter: &Counter) -> [WiderWord; 8]
     ]
 }
 
-/// Returns the word whose halves have as bytes the block with its number enlarged by `low` and by `high`.
+/// Returns two counter blocks, `low` and `high` after `block`, as the bytes of the halves of one word.
 #[inline(always)]
 fn two_counters(block: Block, number: u32, low: u32, high: u32) -> WiderWord
     ensures low { to_le_bytes w128 (half_of 0 result) ≡ counter_block (take 12 block) (number + low) }
@@ -61,7 +61,7 @@ fn two_counters(block: Block, number: u32, low: u32, high: u32) -> WiderWord
     )
 }
 
-/// Returns the word whose bytes are the block with its number enlarged by `more`.
+/// Returns the counter block `more` after `block`, as the bytes of a word.
 #[inline(always)]
 fn counter_more(block: Block, number: u32, more: u32) -> Word
     ensures { to_le_bytes w128 result ≡ counter_block (take 12 block) (number + more) }

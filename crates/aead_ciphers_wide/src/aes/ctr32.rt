@@ -17,7 +17,7 @@ use std::simd::u8x16;
 const MANY: usize = 8;
 
 /// The length of a batch of these blocks, in bytes.
-const BATCH_LEN: usize = MANY * BLOCK_LEN;
+pub(crate) const BATCH_LEN: usize = MANY * BLOCK_LEN;
 
 /// The length of a batch of the sixteen blocks that one pass encrypts on planes of 256 bits.
 const LONG_BATCH_LEN: usize = 16 * BLOCK_LEN;
@@ -62,7 +62,7 @@ fn encrypt_batch(
 )
     requires within { start ≤ length in_out.old }
     requires whole { (length in_out.old - start) % 16 ≡ 0 }
-    requires short { length in_out.old - start ≤ 256 }
+    requires short { length in_out.old - start ≤ LONG_BATCH_LEN }
     requires sums { CanAdd work.old ((length in_out.old - start) / 16) 0 }
     ensures output { EncryptsToFront (aes key.now) counter.old start in_out.old in_out.new }
     ensures counter { Advances counter.old counter.new ((length in_out.old - start) / 16) }
@@ -70,7 +70,7 @@ fn encrypt_batch(
 {
     let blocks = (in_out.len() - start) / BLOCK_LEN;
     if blocks <= FEW {
-        encrypt_few(&key.by_block(), in_out, start, counter, blocks);
+        encrypt_few(&key.as_block_key_ref(), in_out, start, counter, blocks);
     } else if blocks <= MANY {
         encrypt_up_to_eight(key, in_out, start, counter, blocks);
     } else {
@@ -90,7 +90,7 @@ fn encrypt_up_to_eight(
     count: usize,
 )
     requires within { length in_out.old ≡ start + 16 * count }
-    requires count { count ≤ 8 }
+    requires count { count ≤ MANY }
     ensures { EncryptsToFront (aes key.now) counter.now start in_out.old in_out.new }
 {
     let keystream = key.encrypt_eight(counters(counter));
@@ -133,7 +133,7 @@ fn encrypt_few(
     count: usize,
 )
     requires within { length in_out.old ≡ start + 16 * count }
-    requires few { count ≤ 4 }
+    requires few { count ≤ FEW }
     ensures { EncryptsToFront (aes key.now) counter.now start in_out.old in_out.new }
 {
     for i in 0..count / 2 {

@@ -1,5 +1,5 @@
-//! The key schedule (FIPS 197 section 5.2), a round key at a time: the columns of a vector are its four words. Words of four
-//! bytes were copied one by one.
+//! The AES key schedule (FIPS 197 section 5.2), a round key at a time: the columns of a vector are its four words. The
+//! compiler would copy words of four bytes one by one.
 
 ghost use Rattle.std.specs.Prelude.{◌≡◌, ◌+◌, ◌-◌, ◌*◌, ◌/◌, ◌%◌, ◌<◌, ◌≤◌, ◌≢◌, ◌⊎◌, ◌==◌, nat_lt, if◌then◌else◌, ℕ, [], ◌∷◌, length, slice_index};
 ghost use Rattle.aead_ciphers_base.specs.Bytes.{◌⊕◌};
@@ -15,7 +15,7 @@ use std::simd::u8x16;
 /// The first byte of each round constant Rcon.
 const ROUND_CONSTANTS: [u8; 10] = [0x01, 0x02, 0x04, 0x08, 0x10, 0x20, 0x40, 0x80, 0x1b, 0x36];
 
-/// Returns a round constant in each column.
+/// Returns a vector each of whose columns is round constant `n`.
 #[inline(always)]
 fn round_constant(n: usize) -> u8x16
     requires { n < 10 }
@@ -49,7 +49,7 @@ fn shift_columns_by_two(block: u8x16) -> u8x16
     )
 }
 
-/// Returns the last column in each column.
+/// Returns a vector each of whose columns is the last column.
 #[inline(always)]
 fn last_column(block: u8x16) -> u8x16
     ensures { result ≡ state (λ r c. at block r 3) }
@@ -59,7 +59,7 @@ fn last_column(block: u8x16) -> u8x16
     ])
 }
 
-/// Returns RotWord of the last column in each column.
+/// Returns a vector each of whose columns is RotWord of the last column.
 #[inline(always)]
 fn rotated_column(block: u8x16) -> u8x16
     ensures { result ≡ state (λ r c. at block ((r + 1) % 4) 3) }
@@ -69,7 +69,7 @@ fn rotated_column(block: u8x16) -> u8x16
     ])
 }
 
-/// Returns SubWord of RotWord of the last column, with round constant `i` added, in each column.
+/// Returns a vector each of whose columns is SubWord of RotWord of the last column, with round constant `i` added.
 #[inline(always)]
 fn sub_rot_last_word(last: u8x16, i: usize) -> u8x16
     requires { i < 10 }
@@ -79,7 +79,7 @@ fn sub_rot_last_word(last: u8x16, i: usize) -> u8x16
     sub_each(rotated_column(last)) ^ round_constant(i)
 }
 
-/// Returns SubWord of the last column in each column.
+/// Returns a vector each of whose columns is SubWord of the last column.
 #[inline(always)]
 fn sub_last_word(last: u8x16) -> u8x16
     ensures { (c : ℕ) → c < 4 → column result c ≡ sub_word (column last 3) }
@@ -87,7 +87,8 @@ fn sub_last_word(last: u8x16) -> u8x16
     sub_each(last_column(last))
 }
 
-/// Returns, in each column, what the last word before round key `n` of a key of `m` blocks becomes before it is added.
+/// Returns a vector each of whose columns is the last word before round key `n` of a key of `m` blocks, transformed as it is before
+/// it is added to the first word of that round key.
 #[inline(always)]
 fn transformed(last: u8x16, n: usize, m: usize) -> u8x16
     requires blocks { 0 < m }
@@ -140,7 +141,7 @@ pub fn expand(round_keys: &mut RoundKeys, key: &[u8])
     clear_last_four(round_keys, ZERO_BLOCK);
     copy_key(round_keys, key);
     let m = key.len() / BLOCK_LEN;
-    // The round keys that the next one is made of. To load them from `round_keys` would wait for what was just stored.
+    // The round keys that the next one is made of. A load of them from `round_keys` would wait for the last store.
     let mut back = u8x16::from_array(round_keys[0]);
     let mut last = u8x16::from_array(round_keys[m - 1]);
     for n in m..4 * m + 7 {

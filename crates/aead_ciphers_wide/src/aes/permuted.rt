@@ -1,4 +1,4 @@
-//! The steps of a round (FIPS 197 section 5.1) on the bytes of a block, by byte permutes (M. Hamburg, Accelerating AES with
+//! The steps of an AES round (FIPS 197 section 5.1) on the bytes of a block, by byte permutes (M. Hamburg, Accelerating AES with
 //! Vector Permute Instructions, 2009).
 //!
 //! A look-up in a table of 16 bytes permutes the bytes of a vector, so no memory is read at an index that depends on a byte.

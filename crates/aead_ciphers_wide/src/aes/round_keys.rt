@@ -1,5 +1,5 @@
-//! Round keys as blocks, and as the planes that a pass adds, which hold a round key eight times, once for each block: spreading
-//! words in each round took a tenth of a pass.
+//! AES round keys as blocks, and as the planes that a pass adds. The planes hold a round key eight times, once for each block, since
+//! spreading words in each round took a tenth of a pass.
 
 ghost use Rattle.std.specs.Prelude.{◌≡◌, ◌<◌, ◌≤◌, ◌+◌, ◌*◌, ◌/◌, ◌^◌, ℕ, drop, length, map, slice_index, slice_index_or, take};
 ghost use Rattle.std.specs.Int.{bit_at};
@@ -65,7 +65,7 @@ impl RoundKeyPlanes<WiderWord> for KeyPlanes {
     }
 }
 
-/// The plane of one bit of each digit, which are in base 16, in two words, the lower word first.
+/// Returns the plane of bit `bit` of each digit in two words, the lower word first. The digits are in base 16.
 #[inline(always)]
 fn plane_of(digits: u8x16, bit: usize) -> (u64, u64)
     requires bit { bit < 4 }
@@ -108,8 +108,8 @@ pub(crate) fn joined(first: Block, second: Block) -> [u8; 32]
     both
 }
 
-/// Writes zeros to the places that a key of 10 rounds doesn't use. A key of more rounds then overwrites some. Clearing those
-/// after a key's own took three times as many instructions.
+/// Writes zeros to the places that a key of 10 rounds doesn't use. A key of more rounds then overwrites some. Clearing only
+/// the places after a key's own took three times as many instructions.
 #[inline(always)]
 pub(super) fn clear_last_four<T: Copy>(rows: &mut [T], zero: T)
     requires { length rows.old ≡ 15 }

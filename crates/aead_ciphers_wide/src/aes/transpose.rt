@@ -25,8 +25,8 @@ fn delta_swap<P: Lanes>(a: P, b: P, k: usize) -> (P, P)
     (a ^ delta.lanes_left(shift), b ^ delta)
 }
 
-/// Exchanges digit `k` of each place with the highest digit of the word's number, and then rotates the
-/// digits of the number: the highest becomes the lowest.
+/// Exchanges digit `k` of each bit's place in its word with the highest digit of the word's index, and
+/// then rotates the digits of the index: the highest becomes the lowest.
 #[inline(always)]
 fn exchange_digits<P: Lanes>(words: [P; 8], k: usize) -> [P; 8]
     requires { k < 6 }

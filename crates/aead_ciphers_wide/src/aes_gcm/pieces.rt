@@ -7,6 +7,7 @@ ghost use Rattle.aead_ciphers.specs.Gcm.{Fits, gcm_tag, padded_blocks};
 ghost use Rattle.aead_ciphers.specs.HashOf.{IsHashOf};
 ghost use Rattle.aead_ciphers_wide.specs.Pieces.{HasSealed, HasTaken, SealsPiece, joined, keystream, zero_state};
 
+use crate::aes::BATCH_LEN;
 use aead_ciphers::gcm::{self, MAX_AAD_LEN, MAX_IN_OUT_LEN, UpdateBlocks, Xi, lengths};
 use aead_ciphers_base::aes::{
     BLOCK_LEN, Block, Counter, EncryptCtr32, Iv, Overlapping, Work, ZERO_BLOCK,
@@ -15,17 +16,14 @@ use aead_ciphers_base::bb;
 use aead_ciphers_base::error::Unspecified;
 use aead_ciphers_base::values::{Aad, NONCE_LEN, Nonce, Tag};
 
-/// The length of a batch, in bytes: eight blocks, which one pass of the wide cipher encrypts.
-const BATCH_LEN: usize = 8 * BLOCK_LEN;
-
 /// What is kept of a message that is sealed in pieces, as plain data without padding. The keystream in `batch` is secret.
 #[repr(C)]
 #[derive(Drop)]
 pub struct SealState {
     /// The hash of the AAD and of the whole batches of ciphertext.
     pub xi: Block,
-    /// The ciphertext after the whole batches, followed by the rest of its keystream. As one array of both, a piece within a
-    /// batch is one step. No `Work` counts a batch, which may reach past the end.
+    /// The ciphertext after the whole batches, followed by the rest of its keystream. With both in one array, a piece
+    /// within a batch takes one step. No `Work` counts a batch, which may reach past the end.
     pub batch: [u8; BATCH_LEN],
     /// The length of the AAD, in bytes.
     pub aad_len: usize,
@@ -67,7 +65,7 @@ impl SealState {
         ensures begun { IfOk result (λ s. (cipher : List ℕ → List ℕ)
             → G.hash_subkey gcm.now ≡ cipher zero_block
             → HasSealed cipher nonce (aad_bytes aad.entry) [] [] s) }
-        ensures cleared { IfOk result (λ s. s.batch ≡ replicate 128 0) }
+        ensures cleared { IfOk result (λ s. s.batch ≡ replicate BATCH_LEN 0) }
     {
         let aad = aad.as_ref();
         if aad.len() > MAX_AAD_LEN {
@@ -97,11 +95,11 @@ impl SealState {
         ensures begun { IfOk result (λ s. (cipher : List ℕ → List ℕ)
             → G.hash_subkey gcm.now ≡ cipher zero_block
             → HasSealed cipher nonce (joined aad.now) [] [] s) }
-        ensures cleared { IfOk result (λ s. s.batch ≡ replicate 128 0) }
+        ensures cleared { IfOk result (λ s. s.batch ≡ replicate BATCH_LEN 0) }
     {
         let mut hash = PartialHash::new();
         for part in aad {
-            hash.take_in(gcm, part);
+            hash.update(gcm, part);
         }
         if hash.total > MAX_AAD_LEN {
             return Err(Unspecified);
@@ -168,7 +166,7 @@ impl SealState {
         in_out: &mut [u8],
     )
         requires subkey { G.hash_subkey gcm.now ≡ A.cipher aes.now zero_block }
-        requires room { self.old.len % 128 + length in_out.old ≤ 128 }
+        requires room { self.old.len % BATCH_LEN + length in_out.old ≤ BATCH_LEN }
         requires len { self.old.len + length in_out.old ≤ 2 ^ 36 - 32 }
         ensures { SealsPiece (A.cipher aes.now) self.old in_out.old in_out.new self.new }
     {
@@ -186,9 +184,9 @@ impl SealState {
     /// Returns the batch of the next byte. At the start of a batch, it is new keystream.
     fn next_batch<A: EncryptCtr32>(&self, aes: &A) -> [u8; BATCH_LEN]
         requires { self.now.len ≤ 2 ^ 36 - 32 }
-        ensures made { self.now.len % 128 ≡ 0
+        ensures made { self.now.len % BATCH_LEN ≡ 0
             → result ≡ keystream (A.cipher aes.now) self.now.nonce self.now.len }
-        ensures kept { 0 < self.now.len % 128 → result ≡ self.now.batch }
+        ensures kept { 0 < self.now.len % BATCH_LEN → result ≡ self.now.batch }
     {
         if self.len % BATCH_LEN != 0 {
             return self.batch;
@@ -210,9 +208,9 @@ impl SealState {
 struct PartialHash {
     /// The hash of the whole batches.
     xi: Block,
-    /// The bytes after them, at the front.
+    /// The bytes after the whole batches, at the front of the array.
     batch: [u8; BATCH_LEN],
-    /// How many these are.
+    /// The number of bytes after the whole batches.
     len: usize,
     /// The length of all parts in bytes, or the largest number if they are longer.
     total: usize,
@@ -232,9 +230,9 @@ impl PartialHash {
     }
 
     /// Hashes the next part.
-    fn take_in<G: UpdateBlocks>(&mut self, gcm: &G, part: &[u8])
-        requires { self.old.len < 128 }
-        ensures short { self.new.len < 128 }
+    fn update<G: UpdateBlocks>(&mut self, gcm: &G, part: &[u8])
+        requires { self.old.len < BATCH_LEN }
+        ensures short { self.new.len < BATCH_LEN }
         ensures taken { (bytes : List ℕ) → HasTaken (G.hash_subkey gcm.now) bytes self.old
             → HasTaken (G.hash_subkey gcm.now) (bytes ++ part.now) self.new }
         ensures total { self.new.total ≡ min (self.old.total + length part.now) (2 ^ 64 - 1) }
@@ -243,16 +241,16 @@ impl PartialHash {
         let mut done = 0;
         while done < part.len() {
             let count = (part.len() - done).min(BATCH_LEN - self.len);
-            self.take_in_batch(gcm, &part[done..done + count]);
+            self.update_within_batch(gcm, &part[done..done + count]);
             done += count;
         }
     }
 
     /// Hashes bytes that end in the batch of their first byte.
-    fn take_in_batch<G: UpdateBlocks>(&mut self, gcm: &G, bytes: &[u8])
-        requires short { self.old.len < 128 }
-        requires room { self.old.len + length bytes.now ≤ 128 }
-        ensures len { self.new.len ≡ (self.old.len + length bytes.now) % 128 }
+    fn update_within_batch<G: UpdateBlocks>(&mut self, gcm: &G, bytes: &[u8])
+        requires short { self.old.len < BATCH_LEN }
+        requires room { self.old.len + length bytes.now ≤ BATCH_LEN }
+        ensures len { self.new.len ≡ (self.old.len + length bytes.now) % BATCH_LEN }
         ensures taken { (before : List ℕ) → HasTaken (G.hash_subkey gcm.now) before self.old
             → HasTaken (G.hash_subkey gcm.now) (before ++ bytes.now) self.new }
         ensures total { self.new.total ≡ self.old.total }
@@ -267,7 +265,7 @@ impl PartialHash {
 
     /// Returns the hash of all parts, whose last block is padded with zeros.
     fn finish<G: UpdateBlocks>(&self, gcm: &G) -> Block
-        requires { self.now.len < 128 }
+        requires { self.now.len < BATCH_LEN }
         ensures { (bytes : List ℕ) → HasTaken (G.hash_subkey gcm.now) bytes self.now
             → IsHashOf (G.hash_subkey gcm.now) (padded_blocks bytes) result }
     {

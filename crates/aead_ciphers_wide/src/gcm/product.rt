@@ -51,7 +51,7 @@ pub(crate) fn product(table: &[u8; 512], block: u8x16) -> u8x16
     let mut second = u8x16::splat(0);
     for k in 0..16 {
         let at = 16 * (15 - k);
-        let (front, back) = moved(first, second);
+        let (front, back) = moved_by_one(first, second);
         let bytes = looked_up(table, at, high, low);
         first = add(front, bytes);
         second = back;
@@ -92,7 +92,7 @@ pub(crate) fn ghash_pair(
         odd = add(odd_front, odd_bytes);
         odd_over = odd_back;
     }
-    let (front, back) = moved(odd, odd_over);
+    let (front, back) = moved_by_one(odd, odd_over);
     let sum = add(even, front);
     let over = add(even_over, back);
     reduced(sum, over)
@@ -115,8 +115,8 @@ fn looked_up_rows(table: &[u8; 512], high: u8x16, low: u8x16) -> [u8x16; 16]
     rows
 }
 
-/// Returns the bytes of the two rows of `table` from the indices `at` and `256 + at` on, at the places `high` and `low`,
-/// added.
+/// Looks up the places `high` in the row of `table` from index `at` on, and `low` in the row from `256 + at` on, and returns the
+/// sums of the bytes that it finds.
 #[inline(always)]
 fn looked_up(table: &[u8; 512], at: usize, high: u8x16, low: u8x16) -> u8x16
     requires at { at + 272 ≤ 512 }
@@ -159,7 +159,7 @@ pub(crate) fn add(a: u8x16, b: u8x16) -> u8x16
 
 /// Moves 32 bytes by one place. The last is lost.
 #[inline(always)]
-fn moved(first: u8x16, second: u8x16) -> (u8x16, u8x16)
+fn moved_by_one(first: u8x16, second: u8x16) -> (u8x16, u8x16)
     ensures first { result.0 ≡ 0 ∷ each_below 15 (λ i. slice_index first i) }
     ensures second { result.1 ≡ slice_index first 15 ∷ each_below 15 (λ i. slice_index second i) }
 {
@@ -209,7 +209,7 @@ fn reduced(first: u8x16, second: u8x16) -> u8x16
     requires { slice_index second 15 ≡ 0 }
     ensures { result ≡ first ⊕ u128_times second }
 {
-    let (before, _) = moved(second, u8x16::splat(0));
+    let (before, _) = moved_by_one(second, u8x16::splat(0));
     add(first, folded(second, before))
 }
 

@@ -72,7 +72,7 @@ loop-k-preserved c =
 pub reduced-requires : goal.reduced-requires
 reduced-requires c =
     joined_last c.loop-k.even_over c.loop-k.odd c.loop-k.odd_over c.add-over.result c.loop-k.auto.even_over.0
-    (c.add-over.ensures ∙ ap (λ b. c.loop-k.even_over ⊕ b) c.moved.ensures.second)
+    (c.add-over.ensures ∙ ap (λ b. c.loop-k.even_over ⊕ b) c.moved_by_one.ensures.second)
     (c.loop-k.invariant.even_zeros 15 (omega arith)) (c.loop-k.invariant.odd_zeros 14 (omega arith))
 
 pub returns : goal.returns
@@ -92,8 +92,8 @@ returns c =
     (IsBlock-vector c.args.second c.fits-second.0 c.fits-second.1) c.digits-2.ensures.high c.digits-2.ensures.low
     c.looked_up_rows-of_second.ensures
     (IsBlock-vector c.add-sum.result (omega arith) (search rules)) (IsBlock-vector c.add-over.result (omega arith) (search rules)) (omega arith)
-    (ap₂ pair_value (c.add-sum.ensures ∙ ap (λ b. even ⊕ b) c.moved.ensures.first)
-    (c.add-over.ensures ∙ ap (λ b. even_over ⊕ b) c.moved.ensures.second)
+    (ap₂ pair_value (c.add-sum.ensures ∙ ap (λ b. even ⊕ b) c.moved_by_one.ensures.first)
+    (c.add-over.ensures ∙ ap (λ b. even_over ⊕ b) c.moved_by_one.ensures.second)
     ∙ joined_value even even_over odd odd_over at.even.0 at.even_over.0 at.odd.0 at.odd_over.0
     (c.loop-k.invariant.odd_zeros 15 (omega arith)) ∙ c.loop-k.invariant.value)
     c.reduced.ensures

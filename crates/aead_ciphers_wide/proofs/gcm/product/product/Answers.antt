@@ -30,13 +30,13 @@ loop-k-preserved c =
     record {
       value =
           ap₂ pair_value
-          (c.add-first.ensures ∙ ap (λ b. b ⊕ bytes) c.moved.ensures.first)
-          c.moved.ensures.second
+          (c.add-first.ensures ∙ ap (λ b. b ⊕ bytes) c.moved_by_one.ensures.first)
+          c.moved_by_one.ensures.second
           ∙ turn first second bytes (λ r. ladder 16 (λ i. first_byte (row_byte table high low r i))) k
           at.first.0 at.second.0 size (omega arith) (c.loop-k.invariant.zeros 15 (omega arith)) c.loop-k.invariant.value
           (looked_value table high low bytes (15 - k) c.looked_up-bytes.ensures);
       zeros = λ i h.
-          ap (λ b. slice_index b i) c.moved.ensures.second
+          ap (λ b. slice_index b i) c.moved_by_one.ensures.second
           ∙ moved_zeros (slice_index first 15) k second c.loop-k.invariant.empty c.loop-k.invariant.zeros i h;
       empty = λ h. absurd (omega arith);
     }

@@ -15,4 +15,4 @@ returns c =
     (folded_is over sum (IsBlock-vector over c.fits-second.0 c.fits-second.1) c.requires size
     (λ i h.
     c.folded.ensures i h
-    ∙ ap (λ before. folded_byte before (slice_index over i)) (before_is over c.moved.result.0 c.moved.ensures.first i h)))
+    ∙ ap (λ before. folded_byte before (slice_index over i)) (before_is over c.moved_by_one.result.0 c.moved_by_one.ensures.first i h)))

@@ -15,9 +15,9 @@ loop-part-preserved g c =
     let was = c.loop-part.invariant in
     rw (front, map-append, concat-append, append-nil)
     (record {
-      short = c.take_in.ensures.short;
-      total = omega (arith, was.total, c.take_in.ensures.total, length-append (joined (take i parts)) (get_or parts i none).now);
-      taken = c.take_in.ensures.taken _ was.taken;
+      short = c.update.ensures.short;
+      total = omega (arith, was.total, c.update.ensures.total, length-append (joined (take i parts)) (get_or parts i none).now);
+      taken = c.update.ensures.taken _ was.taken;
     })
 
 pub returns-clause-begun : goal.returns-clause-begun

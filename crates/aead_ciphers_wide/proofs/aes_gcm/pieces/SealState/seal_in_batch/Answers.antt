@@ -1,5 +1,6 @@
 use Rattle.std.proofs.Common.{◌≡◌, ℕ, ◌+◌, ◌-◌, ◌<◌, ◌≤◌, ◌%◌, ◌++◌, length, take, drop, arith, ap}
 use Rattle.aead_ciphers_wide.proofs.PieceLemmas.{seals_full, seals_open}
+use Rattle.aead_ciphers_wide.specs.declared.aes.ctr32.TheConstants.{BATCH_LEN}
 use Rattle.aead_ciphers_wide.proofs.aes_gcm.pieces.SealState.seal_in_batch.Goals as goal
 
 -- the length of the piece, as the code computes it
@@ -7,12 +8,12 @@ left : (n many : ℕ) → n + many - n ≡ many
 left n many = omega arith
 
 -- a batch that isn't full
-not_full : {n : ℕ} → n ≤ 128 → (n ≡ 128 → ⊥) → n < 128
+not_full : {n : ℕ} → n ≤ BATCH_LEN → (n ≡ BATCH_LEN → ⊥) → n < BATCH_LEN
 not_full room other = omega arith
 
 pub returns-then-end-eq-BATCH_LEN : goal.returns-then-end-eq-BATCH_LEN
 returns-then-end-eq-BATCH_LEN g c =
-    let n = c.args.self.now.len % 128 in
+    let n = c.args.self.now.len % BATCH_LEN in
     let batch = c.next_batch-self.result in
     seals_full (g.A.EncryptBlock.cipher c.args.aes.now) c.args.self.now c.args.in_out.now c.xor_assign_at_start.new.a batch _ (left n _)
     c.requires.room c.requires.len c.xor_assign_at_start.auto.a (omega arith)
@@ -22,7 +23,7 @@ returns-then-end-eq-BATCH_LEN g c =
 
 pub returns-else-end-eq-BATCH_LEN : goal.returns-else-end-eq-BATCH_LEN
 returns-else-end-eq-BATCH_LEN g c =
-    let n = c.args.self.now.len % 128 in
+    let n = c.args.self.now.len % BATCH_LEN in
     let batch = c.next_batch-self.result in
     seals_open (g.A.EncryptBlock.cipher c.args.aes.now) c.args.self.now c.args.in_out.now c.xor_assign_at_start.new.a batch _ (left n _)
     c.requires.room c.requires.len c.xor_assign_at_start.auto.a (omega arith)

@@ -1,7 +1,7 @@
 use Rattle.std.proofs.Common.{◌+◌, ◌-◌, ◌≡◌, ◌++◌, take, drop, ap, arith, subst, sym, append-nil, append_assoc, take_all, ◌∙◌}
 use Rattle.std.proofs.Math.Seq.{take-add}
 use Rattle.aead_ciphers_wide.specs.Pieces.{HasTaken}
-use Rattle.aead_ciphers_wide.proofs.aes_gcm.pieces.PartialHash.take_in.Goals as goal
+use Rattle.aead_ciphers_wide.proofs.aes_gcm.pieces.PartialHash.update.Goals as goal
 
 pub loop-done-init : goal.loop-done-init
 loop-done-init g c = record {
@@ -25,13 +25,13 @@ loop-done-preserved g c =
     let many : done + n - done ≡ n = omega arith in
     record {
       within = omega arith;
-      short = omega (arith, c.take_in_batch.ensures.len);
-      total = c.take_in_batch.ensures.total ∙ c.loop-done.invariant.total;
+      short = omega (arith, c.update_within_batch.ensures.len);
+      total = c.update_within_batch.ensures.total ∙ c.loop-done.invariant.total;
       taken = λ bytes at.
-          subst (λ xs. HasTaken (g.G.UpdateBlock.hash_subkey c.args.gcm.now) xs c.take_in_batch.new.self)
+          subst (λ xs. HasTaken (g.G.UpdateBlock.hash_subkey c.args.gcm.now) xs c.update_within_batch.new.self)
           (append_assoc bytes (take done part) _
           ∙ ap (λ xs. bytes ++ xs) (ap (λ k. take done part ++ take k (drop done part)) many ∙ sym (take-add done n part)))
-          (c.take_in_batch.ensures.taken _ (c.loop-done.invariant.taken bytes at));
+          (c.update_within_batch.ensures.taken _ (c.loop-done.invariant.taken bytes at));
     }
 
 pub returns-clause-taken : goal.returns-clause-taken

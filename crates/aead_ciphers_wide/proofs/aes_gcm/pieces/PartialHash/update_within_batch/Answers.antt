@@ -1,6 +1,6 @@
 use Rattle.std.proofs.Common.{◌+◌, ◌-◌, ◌++◌, length, take, drop, ap, arith}
 use Rattle.aead_ciphers_wide.proofs.PieceLemmas.{takes_full}
-use Rattle.aead_ciphers_wide.proofs.aes_gcm.pieces.PartialHash.take_in_batch.Goals as goal
+use Rattle.aead_ciphers_wide.proofs.aes_gcm.pieces.PartialHash.update_within_batch.Goals as goal
 
 pub returns-then-end-eq-BATCH_LEN-clause-taken : goal.returns-then-end-eq-BATCH_LEN-clause-taken
 returns-then-end-eq-BATCH_LEN-clause-taken g c before at =

@@ -2,7 +2,7 @@ use Rattle.std.proofs.Common.{◌≡◌, ℕ, ◌+◌, ◌-◌, ◌∷◌, List,
 use Rattle.std.proofs.lemmas.List.{get_or_append_left, get_or-append_right}
 use Rattle.aead_ciphers_base.specs.Bytes.{each_below}
 use Rattle.aead_ciphers_base.proofs.EachLemmas.{each-same}
-use Rattle.aead_ciphers_wide.proofs.gcm.product.moved.Goals as goal
+use Rattle.aead_ciphers_wide.proofs.gcm.product.moved_by_one.Goals as goal
 
 -- the bytes from place 15 on of two vectors
 from_last : (first second : List ℕ) → length first ≡ 16
