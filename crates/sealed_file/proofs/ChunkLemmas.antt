@@ -1,11 +1,11 @@
--- What the calls for one chunk say.
+-- Sealing and opening one chunk.
 use Rattle.std.proofs
 use proofs.Common.{◌≡◌, ◌↔◌, ℕ, Bool, true, false, ◌+◌, ◌-◌, ◌<◌, ◌≤◌, List, ◌++◌, length, drop, map, get_or, refl, sym, ap, ap₂, ◌∙◌, arith, append_assoc, append-nil, drop-drop, drop_at, length-append, length-take, take, take-append-drop, take_at}
 use Rattle.std.specs.List.{range_with_len}
 use proofs.lemmas.List.{drop_all}
 use proofs.lemmas.List.FromFn.{fill_by_all}
 use Rattle.aead_ciphers_base.specs.Aes.{aes}
-use Rattle.aead_ciphers.specs.Gcm.{gcm_decrypted, Opened}
+use Rattle.aead_ciphers.specs.Gcm.{gcm_decrypted, Opened, tag_len}
 use Rattle.sealed_file.specs
 use specs.Format.{ChunkKey, chunk_len, chunk_nonce}
 use specs.Opening.{HasTag, chunk_tag, ciphertext_of, opened_chunk}
@@ -45,28 +45,28 @@ pub of_same : (P : ChunkKey → Bool → List ℕ → Type 0) {k k' : ChunkKey} 
 of_same P e f g h = rw (← e, ← f, ← g) h
 
 -- a sealed chunk in two parts
-pub rejoined : (sealed shown front tag : List ℕ) (len : ℕ) → shown ≡ sealed → tag ≡ drop (length shown - 16) shown → front ≡ take (len - 16) sealed
+pub rejoined : (sealed shown front tag : List ℕ) (len : ℕ) → shown ≡ sealed → tag ≡ drop (length shown - tag_len) shown → front ≡ take (len - tag_len) sealed
     → len ≡ length sealed → front ++ tag ≡ sealed
 rejoined sealed shown front tag len shown_is tag_is front_is len_is =
-    rw (front_is, tag_is, shown_is, len_is) (take-append-drop (length sealed - 16) sealed)
+    rw (front_is, tag_is, shown_is, len_is) (take-append-drop (length sealed - tag_len) sealed)
 
-pub length-ciphertext : (sealed : List ℕ) → length (ciphertext_of sealed) ≡ length sealed - 16
-length-ciphertext sealed = omega (arith, length-take (length sealed - 16) sealed)
+pub length-ciphertext : (sealed : List ℕ) → length (ciphertext_of sealed) ≡ length sealed - tag_len
+length-ciphertext sealed = omega (arith, length-take (length sealed - tag_len) sealed)
 
 -- one that is too short has no tag
-pub has_none : (k : ChunkKey) (number : ℕ) (is_last : Bool) (sealed : List ℕ) → length sealed < 16 → (false ≡ true) ↔ HasTag k number is_last sealed
+pub has_none : (k : ChunkKey) (number : ℕ) (is_last : Bool) (sealed : List ℕ) → length sealed < tag_len → (false ≡ true) ↔ HasTag k number is_last sealed
 has_none k number is_last sealed short = (λ never. absurd (cc never), λ had. let size = had.size in absurd (omega arith))
 
 -- a ciphertext and its tag
-module _ (ciphertext received : List ℕ) (sixteen : length received ≡ 16) where
-  tag_at : length ciphertext ≡ length (ciphertext ++ received) - 16
+module _ (ciphertext received : List ℕ) (sixteen : length received ≡ tag_len) where
+  tag_at : length ciphertext ≡ length (ciphertext ++ received) - tag_len
   tag_at = omega (arith, length-append ciphertext received, sixteen)
 
   pub front_is : ciphertext_of (ciphertext ++ received) ≡ ciphertext
-  front_is = take_at ciphertext received (length (ciphertext ++ received) - 16) tag_at
+  front_is = take_at ciphertext received (length (ciphertext ++ received) - tag_len) tag_at
 
-  back_is : drop (length (ciphertext ++ received) - 16) (ciphertext ++ received) ≡ received
-  back_is = drop_at ciphertext received (length (ciphertext ++ received) - 16) tag_at
+  back_is : drop (length (ciphertext ++ received) - tag_len) (ciphertext ++ received) ≡ received
+  back_is = drop_at ciphertext received (length (ciphertext ++ received) - tag_len) tag_at
 
   module _ (k : ChunkKey) (number : ℕ) (is_last : Bool) where
     pub has_tag : received ≡ chunk_tag k number is_last ciphertext → HasTag k number is_last (ciphertext ++ received)

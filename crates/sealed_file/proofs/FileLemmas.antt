@@ -1,4 +1,4 @@
--- A sealed file is one, and opening it gives the file.
+-- What sealing makes is a sealed file, and opening it gives the file back.
 use Rattle.std.proofs.Common.{◌≡◌, ℕ, Bool, ◌+◌, ◌-◌, ◌*◌, ◌^◌, ◌<◌, ◌≤◌, List, ◌++◌, length, refl, sym, ap, subst, ◌∙◌, arith, ◌==◌, drop_at, length-append, take_at}
 use Rattle.std.specs.List.{concat}
 use Rattle.std.proofs.Math.Dec.{lit<}
@@ -6,7 +6,7 @@ use Rattle.aead_ciphers_base.specs
 use specs.Bytes.{each_below}
 use Rattle.aead_ciphers_base.proofs.EachLemmas.{each-same}
 use specs.Aes.{aes}
-use Rattle.aead_ciphers.specs.Gcm.{gcm_encrypted, gcm_decrypted}
+use Rattle.aead_ciphers.specs.Gcm.{gcm_encrypted, gcm_decrypted, tag_len}
 use Rattle.sealed_file.specs.Format.{ChunkKey, Secret, chunk_len, sealed_chunk_len, piece, last_piece, chunk_nonce, sealed_chunk, sealed_chunk_of, sealed_chunks, sealed_file}
 use Rattle.sealed_file.specs.Opening.{HasHeader, HasTag, IsSealed, body_of, chunk_key, chunk_of, chunk_tag, header_of, key_of, last_chunk, messages_under, opened_chunk, opened_file}
 use Rattle.sealed_file.proofs
@@ -19,10 +19,10 @@ module _ (k : ChunkKey) (number : ℕ) (flag : Bool) (chunk : List ℕ) where
   abbrev ciphertext : List ℕ
   ciphertext = gcm_encrypted (aes k.key) (chunk_nonce k.prefix number flag) chunk
 
-  sixteen : length (chunk_tag k number flag ciphertext) ≡ 16
+  sixteen : length (chunk_tag k number flag ciphertext) ≡ tag_len
   sixteen = length-aes_tag k.key (chunk_nonce k.prefix number flag) k.aad ciphertext
 
-  pub length-sealed_chunk : length (sealed_chunk k number flag chunk) ≡ length chunk + 16
+  pub length-sealed_chunk : length (sealed_chunk k number flag chunk) ≡ length chunk + tag_len
   unfolding sealed_chunk
   length-sealed_chunk = length-aes_sealed k.key (chunk_nonce k.prefix number flag) k.aad chunk
 
@@ -31,7 +31,7 @@ module _ (k : ChunkKey) (number : ℕ) (flag : Bool) (chunk : List ℕ) where
   unfolding sealed_chunk
   sealed_has_tag = has_tag ciphertext (chunk_tag k number flag ciphertext) sixteen k number flag refl
 
-  -- and opens to the chunk
+  -- a sealed chunk opens to the chunk
   pub opened_sealed_chunk : opened_chunk k number flag (sealed_chunk k number flag chunk) ≡ chunk
   unfolding sealed_chunk opened_chunk
   opened_sealed_chunk =
@@ -45,14 +45,14 @@ last_of file = last_piece chunk_len (length file)
 -- ---- lengths
 
 -- a chunk of n bytes is sealed in m
-sealed_short : (n m : ℕ) → n ≤ chunk_len → m ≡ n + 16 → m ≤ sealed_chunk_len
+sealed_short : (n m : ℕ) → n ≤ chunk_len → m ≡ n + tag_len → m ≤ sealed_chunk_len
 sealed_short n m h m_is = omega arith
 
-sealed_some : (n m : ℕ) → m ≡ n + 16 → 0 < m
+sealed_some : (n m : ℕ) → m ≡ n + tag_len → 0 < m
 sealed_some n m m_is = omega arith
 
 -- the sealed chunks of a file of n bytes, and with the header
-chunks_len : (n last : ℕ) → chunk_len * last ≤ n → sealed_chunk_len * last + (n - chunk_len * last + 16) ≡ n + (last + 1) * 16
+chunks_len : (n last : ℕ) → chunk_len * last ≤ n → sealed_chunk_len * last + (n - chunk_len * last + tag_len) ≡ n + (last + 1) * tag_len
 chunks_len n last h = omega arith
 
 file_len : (header n tags : ℕ) → header + (n + tags) ≡ header + n + tags
@@ -62,7 +62,7 @@ pub at_most : (i n m : ℕ) → i < n + 1 → n ≡ m → i ≤ m
 at_most i n m h e = omega arith
 
 module _ (k : ChunkKey) (file : List ℕ) where
-  pub length-sealed_chunk_of : (i : ℕ) → length (sealed_chunk_of k file i) ≡ length (piece chunk_len file i) + 16
+  pub length-sealed_chunk_of : (i : ℕ) → length (sealed_chunk_of k file i) ≡ length (piece chunk_len file i) + tag_len
   length-sealed_chunk_of i = length-sealed_chunk k i (i == last_of file) (piece chunk_len file i)
 
   abbrev whole : List ℕ
@@ -75,7 +75,7 @@ module _ (k : ChunkKey) (file : List ℕ) where
   chunks = concat (each_below (last + 1) (sealed_chunk_of k file))
 
   whole_before : (i : ℕ) → i < last → length (sealed_chunk_of k file i) ≡ sealed_chunk_len
-  whole_before i before = length-sealed_chunk_of i ∙ ap (λ n. n + 16) (length-piece chunk_len file i (lit< tt) before)
+  whole_before i before = length-sealed_chunk_of i ∙ ap (λ n. n + tag_len) (length-piece chunk_len file i (lit< tt) before)
 
   last_is_short : length (sealed_chunk_of k file last) ≤ sealed_chunk_len
   last_is_short = sealed_short _ _ (length-piece-le chunk_len file last) (length-sealed_chunk_of last)
@@ -84,19 +84,19 @@ module _ (k : ChunkKey) (file : List ℕ) where
   unfolding sealed_chunks
   whole_is = refl
 
-  length-chunks : length chunks ≡ length file + (last + 1) * 16
+  length-chunks : length chunks ≡ length file + (last + 1) * tag_len
   length-chunks = length-all sealed_chunk_len (sealed_chunk_of k file) last whole_before
-      ∙ ap (λ n. sealed_chunk_len * last + n) (length-sealed_chunk_of last ∙ ap (λ n. n + 16) (length-last_piece chunk_len file (lit< tt)))
+      ∙ ap (λ n. sealed_chunk_len * last + n) (length-sealed_chunk_of last ∙ ap (λ n. n + tag_len) (length-last_piece chunk_len file (lit< tt)))
       ∙ chunks_len (length file) last (last_piece-at chunk_len (length file))
 
-  -- the file's bytes, the header's, and 16 more for each chunk
-  pub length-sealed_file : length whole ≡ length k.header + length file + (last + 1) * 16
+  -- a sealed file has the header's bytes, the file's, and a tag for each chunk
+  pub length-sealed_file : length whole ≡ length k.header + length file + (last + 1) * tag_len
   length-sealed_file = ap length whole_is ∙ length-append k.header chunks ∙ ap (λ n. length k.header + n) length-chunks
-      ∙ file_len (length k.header) (length file) ((last + 1) * 16)
+      ∙ file_len (length k.header) (length file) ((last + 1) * tag_len)
 
-  pub sealed_len : (n : ℕ) → length k.header ≡ 60 → n ≡ last → 60 + length file + (n + 1) * 16 ≡ length whole
-  sealed_len n size n_is = ap (λ m. m + length file + (n + 1) * 16) (sym size)
-      ∙ ap (λ m. length k.header + length file + (m + 1) * 16) n_is ∙ sym length-sealed_file
+  pub sealed_len : (n : ℕ) → length k.header ≡ 60 → n ≡ last → 60 + length file + (n + 1) * tag_len ≡ length whole
+  sealed_len n size n_is = ap (λ m. m + length file + (n + 1) * tag_len) (sym size)
+      ∙ ap (λ m. length k.header + length file + (m + 1) * tag_len) n_is ∙ sym length-sealed_file
 
   module _ (key : Secret) (h : IsHeaderOf key k) where
     body_is : body_of whole ≡ chunks

@@ -1,4 +1,4 @@
--- Headers, and what the chunks after one were sealed under.
+-- Headers of sealed files, and what the chunks after one were sealed under.
 use Rattle.std.proofs
 use proofs.Common.{◌≡◌, ℕ, inl, inr, ◌+◌, ◌≤◌, List, [], ◌∷◌, ◌++◌, length, take, drop, refl, sym, ap, ◌∙◌, arith, drop_at, drop-drop, get_or-take, length-append, length-drop, length-take, take-append-drop, take-take, take_at}
 use Rattle.std.specs.Prelude.{codes, slice_index}
@@ -13,7 +13,7 @@ use specs.Format.{ChunkKey, Secret, magic_and_version, fresh_key}
 use specs.Opening.{HasHeader, chunk_key, context_of, header_len, header_of}
 use specs.Refusals.{HeaderRefuses, IsOfAnotherKey, IsVersion, VersionRefuses}
 
--- a header's header is the header
+-- the header of the bytes of a header is that header
 pub header_of-header_of : (file : List ℕ) → header_of (header_of file) ≡ header_of file
 header_of-header_of file = take-take header_len header_len file (omega arith)
 
@@ -86,7 +86,7 @@ version_fails version n enough bytes (AnotherVersion found) (size, magic, is, no
 )
 version_fails version n enough bytes error h = absurd h
 
--- and is wrong with a header
+-- what is wrong with the first bytes is wrong with a header
 pub header_fails : (s : Secret) (bytes : List ℕ) (error : FileError) → VersionRefuses s.version bytes error → HeaderRefuses s bytes error
 header_fails s bytes EndsEarly short = inl short
 header_fails s bytes WrongKey h = absurd h
@@ -112,7 +112,7 @@ module _ (s : Secret) (header : List ℕ) where
   pub front_of : HasHeader s header → take 9 header ≡ magic_and_version s.version
   front_of has = ap (take 9) has.right ∙ front_fresh s random
 
-  -- and ends with the commitment to the key
+  -- a header ends with the commitment to the key
   pub commitment_of : HasHeader s header → drop 28 header ≡ commitment s.key (take 12 (drop 9 header))
   commitment_of has =
       let size : length random ≡ 19 = omega (arith, size_of has, length-take 19 (drop 9 header), length-drop 9 header) in

@@ -1,8 +1,9 @@
--- What sealing and opening in memory ask beyond the steps.
+-- Sealing and opening files in memory, beyond the steps.
 use Rattle.std.proofs.Common.{◌≡◌, ℕ, ◌+◌, ◌-◌, ◌*◌, ◌<◌, ◌≤◌, List, ◌++◌, length, take, drop, sym, ap, subst, ◌∙◌, arith, append_assoc, ◌==◌, drop_at, length-append, take-append-drop, take_at, take-take}
 use Rattle.std.proofs.Math.Dec.{lit<}
 use Rattle.std.proofs.Math.Seq.{take-length}
 use Rattle.aead_ciphers.proofs.MessageLaws.{length-aes_decrypted}
+use Rattle.aead_ciphers.specs.Gcm.{tag_len}
 use Rattle.sealed_file.specs
 use specs.declared.error.FileError.{FileError}
 use specs.declared.error.FileError.TheVariants.{OutOfMemory, Io}
@@ -14,7 +15,7 @@ use proofs.ChunkLemmas.{length-ciphertext}
 use proofs.OpenLemmas.{header_refused, message_at, refused_at}
 use proofs.PieceLemmas.{below_next, length-all, length-last_piece, length-parts-le, length-piece, length-piece-le, piece_of_joined}
 
--- what was written from the end of a list on
+-- a list from whose end on f was applied to a chunk, and a tag after it
 pub written_behind : (f : List ℕ → List ℕ) (old chunk all new tag : List ℕ) (start : ℕ) → length old ≡ start → all ≡ old ++ chunk
     → take start new ≡ take start all → drop start new ++ tag ≡ f (drop start all) → new ++ tag ≡ old ++ f chunk
 written_behind f old chunk all new tag start len all_is front back =
@@ -22,7 +23,7 @@ written_behind f old chunk all new tag start len all_is front back =
     ∙ ap (λ l. l ++ (drop start new ++ tag)) (front ∙ ap (take start) all_is ∙ take_at old chunk start len)
     ∙ ap (λ l. old ++ l) (back ∙ ap f (ap (drop start) all_is ∙ drop_at old chunk start len))
 
--- what a list held stands at the front, where more was appended and more was then written after that
+-- a list is the front of what it became when it was appended to, and written to after that
 pub front_through : (old more mid new : List ℕ) (n m : ℕ) → n ≡ length old → m ≡ length mid → mid ≡ old ++ more → take m new ≡ mid → take n new ≡ old
 front_through old more mid new n m n_is m_is appended kept =
     let t = take_at old more n (sym n_is) in
@@ -30,14 +31,14 @@ front_through old more mid new n m n_is m_is appended kept =
     let within : n ≤ m = omega (arith, simp length-append at e) in
     sym (take-take n m new within) ∙ ap (take n) (kept ∙ appended) ∙ t
 
--- what is added to a list that has room for all
+-- a list with room for a total has room for a part of it
 pub room_for : (old more now : List ℕ) (total cap : ℕ) {n m : ℕ} (part : ℕ) → n ≡ length old → m ≡ length now → now ≡ old ++ more
     → length more + part ≤ total → n + total ≤ cap → m + part ≤ cap
 room_for old more now total cap part n_is m_is appended fits room =
     omega (arith, n_is, m_is, ap length appended, length-append old more, fits, room)
 
 pub room_for_sealed : (old more now : List ℕ) (total cap : ℕ) {n m : ℕ} (part : ℕ) → n ≡ length old → m ≡ length now → now ≡ old ++ more
-    → length more + part + 16 ≤ total → n + total ≤ cap → m + part + 16 ≤ cap
+    → length more + part + tag_len ≤ total → n + total ≤ cap → m + part + tag_len ≤ cap
 room_for_sealed old more now total cap part n_is m_is appended fits room =
     omega (arith, n_is, m_is, ap length appended, length-append old more, fits, room)
 
@@ -51,7 +52,7 @@ lacks_grown len cap more_is lacks = omega arith
 pub full_fits : {X : Type 0} {a b : ℕ} → a ≤ b → b < a → X
 full_fits fits full = absurd (omega arith)
 
--- what a list held stands at the front
+-- a list is the front of what it became when it was appended to
 pub front_same : (old now : List ℕ) (n : ℕ) → n ≡ length old → now ≡ old → take n now ≡ old
 front_same old now n n_is same = rw (n_is, same) (take-length old)
 
@@ -72,14 +73,14 @@ chunk_fails lacks_room key file n (Io e) h = absurd h.wrong.1
 chunk_fails lacks_room key file n error h = refused_at key file n error h
 
 -- the message of a chunk is no longer than a chunk
-message_short : (n m : ℕ) → m ≤ sealed_chunk_len → n ≡ m - 16 → n ≤ chunk_len
+message_short : (n m : ℕ) → m ≤ sealed_chunk_len → n ≡ m - tag_len → n ≤ chunk_len
 message_short n m h n_is = omega arith
 
 module _ (k : ChunkKey) (file : List ℕ) where
   abbrev last : ℕ
   last = last_chunk file
 
-  pub length-message_at : (i : ℕ) → length (message_at k file i) ≡ length (chunk_of file i) - 16
+  pub length-message_at : (i : ℕ) → length (message_at k file i) ≡ length (chunk_of file i) - tag_len
   unfolding opened_chunk
   length-message_at i =
       length-aes_decrypted k.key (chunk_nonce k.prefix i (i == last)) (ciphertext_of (chunk_of file i))
@@ -88,16 +89,16 @@ module _ (k : ChunkKey) (file : List ℕ) where
   -- the messages before the last are whole
   whole_before : (i : ℕ) → i < last → length (message_at k file i) ≡ chunk_len
   whole_before i before =
-      length-message_at i ∙ ap (λ n. n - 16) (length-piece sealed_chunk_len (body_of file) i (lit< tt) before)
+      length-message_at i ∙ ap (λ n. n - tag_len) (length-piece sealed_chunk_len (body_of file) i (lit< tt) before)
 
   -- what a sealed file of this length gives
-  pub length-plaintext : length (plaintext_under k file) ≡ chunk_len * last + (length (body_of file) - sealed_chunk_len * last - 16)
+  pub length-plaintext : length (plaintext_under k file) ≡ chunk_len * last + (length (body_of file) - sealed_chunk_len * last - tag_len)
   unfolding messages_under
   length-plaintext = length-all chunk_len (message_at k file) last whole_before
       ∙ ap (λ n. chunk_len * last + n)
-      (length-message_at last ∙ ap (λ n. n - 16) (length-last_piece sealed_chunk_len (body_of file) (lit< tt)))
+      (length-message_at last ∙ ap (λ n. n - tag_len) (length-last_piece sealed_chunk_len (body_of file) (lit< tt)))
 
-  -- and where a message is in it
+  -- where a message is in what a sealed file gives
   pub piece_of_plaintext : (i : ℕ) → i ≤ last → piece chunk_len (plaintext_under k file) i ≡ message_at k file i
   unfolding messages_under
   piece_of_plaintext i within =
@@ -106,7 +107,7 @@ module _ (k : ChunkKey) (file : List ℕ) where
 
   -- the next message fits in what it gives
   pub open_fits : (n : ℕ) → n ≤ last
-      → length (messages_under k file n) + (length (chunk_of file n) - 16) ≤ length (plaintext_under k file)
+      → length (messages_under k file n) + (length (chunk_of file n) - tag_len) ≤ length (plaintext_under k file)
   unfolding messages_under
   open_fits n within =
       subst (λ m. length (messages_under k file n) + m ≤ length (plaintext_under k file)) (length-message_at n)

@@ -1,4 +1,4 @@
--- The steps of opening.
+-- The steps of opening a sealed file, chunk by chunk.
 use Rattle.std.proofs.Common.{◌≡◌, ◌↔◌, ℕ, Result, Ok, Err, IfErr, IsOk, is_err, Bool, true, false, inl, inr, IfSome, ◌+◌, ◌-◌, ◌*◌, ◌^◌, ◌<◌, ◌≤◌, List, [], ◌++◌, length, drop, sym, ap, subst, ◌∙◌, arith, below_more, ◌==◌, Option, eqb-true, append-nil}
 use Rattle.std.specs.Io.KnownBytes.{Appends, Keeps}
 use Rattle.std.proofs.KnownBytes.{Appends-kept, Appends-nil, Appends-trans, Keeps-refl}
@@ -66,7 +66,7 @@ not_sealed key file lacks_room error room h accepted = elim h [
   | inr (n, at) ↦ at.wrong.0 (accepted.tags.each n (let within = at.in_range in omega arith))
 ]
 
--- nor is a chunk
+-- a chunk that is refused isn't one that is accepted
 not_tagged : (key : Secret) (header : List ℕ) (number : ℕ) (is_last : Bool) (sealed : List ℕ) (lacks_room : Type 0) (error : FileError) → ¬ lacks_room
     → FailsInMemory lacks_room (ChunkAtRefuses key header number is_last sealed) error
     → ¬ (HasHeader key (header_of header) × HasTag (key_of key header) number is_last sealed)

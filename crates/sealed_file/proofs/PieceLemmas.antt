@@ -129,7 +129,7 @@ module _ (size : ℕ) (f : ℕ → List ℕ) (last : ℕ) (whole : (j : ℕ) →
   length-all = ap length (joined_more f last) ∙ length-append (concat (each_below last f)) (f last)
       ∙ ap (λ n. n + length (f last)) (length-joined size f last whole)
 
-  -- are the pieces
+  -- piece i of joined lists, all but the last of one length, is list i
   pub piece_of_joined : (i : ℕ) → length (f last) ≤ size → i ≤ last → piece size (concat (each_below (last + 1) f)) i ≡ f i
   piece_of_joined i short within =
       let (later, split) = joined_parts f i (last + 1) (omega arith) in
@@ -145,7 +145,7 @@ module _ (size : ℕ) (f : ℕ → List ℕ) (last : ℕ) (whole : (j : ℕ) →
             ap (take size) all ∙ take_all size (f i) (subst (λ n. length (f n) ≤ size) (sym same) short)
       ])
 
-  -- and the last piece is the last list, unless that is empty
+  -- the last piece of the joined lists is the last list, unless that is empty
   pub last_of_joined : length (f last) ≤ size → 0 < length (f last) → last_piece size (length (concat (each_below (last + 1) f))) ≡ last
   last_of_joined short some =
       ap (λ n. n / size) (let e : length (concat (each_below (last + 1) f)) - 1

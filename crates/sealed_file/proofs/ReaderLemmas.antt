@@ -1,5 +1,6 @@
--- Reading at any position.
+-- Reading a sealed file at any position.
 use Rattle.std.proofs.Common.{◌≡◌, ◌↔◌, ℕ, Bool, Result, Ok, Err, IsOk, IfErr, OnOk, Option, Some, None, IfSome, inl, inr, true, false, ◌+◌, ◌-◌, ◌*◌, ◌/◌, ◌%◌, ◌<◌, ◌≤◌, List, ◌++◌, length, min, take, drop, refl, sym, ap, subst, ◌∙◌, arith, ◌==◌, drop-drop, eq-eqb, eqb-true, length-drop, ne_eqb, take-take, take_all, if◌then◌else◌}
+use Rattle.aead_ciphers.specs.Gcm.{tag_len}
 use Rattle.std.specs.Option.{option_eq}
 use Rattle.std.proofs.lemmas.Bool.{cases_eq, cases_lt}
 use Rattle.std.proofs.lemmas.List.{drop-take, take-append-le}
@@ -108,7 +109,7 @@ of_header start count (Some all) seen Q count_is seen_is q = subst Q (header_rea
 
 -- where the chunks are, by the length of the file
 pub ends_at : (file : List ℕ) (n last last_len : ℕ) → n ≡ length file → IsSealedLen n → last ≡ last_piece sealed_chunk_len (n - 60)
-    → last_len ≡ n - 60 - sealed_chunk_len * last - 16 → EndsAt file last last_len
+    → last_len ≡ n - 60 - sealed_chunk_len * last - tag_len → EndsAt file last last_len
 ends_at file n last last_len n_is sealed last_is len_is = record {
   last_is = last_is ∙ ap (λ m. last_piece sealed_chunk_len (m - 60)) n_is ∙ ap (last_piece sealed_chunk_len) (sym (length-drop header_len file));
   size = let tag = sealed.tag in let header = sealed.header in omega (arith, n_is, header, rw (← last_is) at tag, len_is);
@@ -123,7 +124,7 @@ length-ends k file last last_len ends =
 
 -- a chunk that is read is the file's
 module _ (all : List ℕ) (start last last_len number len at : ℕ) (ends : EndsAt (drop start all) last last_len) (short : last_len ≤ chunk_len)
-    (in_range : number ≤ last) (len_is : len ≡ message_len last last_len number + 16)
+    (in_range : number ≤ last) (len_is : len ≡ message_len last last_len number + tag_len)
     (at_is : at ≡ start + 60 + sealed_chunk_len * number) where
   abbrev file : List ℕ
   file = drop start all
@@ -135,7 +136,7 @@ module _ (all : List ℕ) (start last last_len number len at : ℕ) (ends : Ends
   rest_is = drop-drop (sealed_chunk_len * number) header_len file ∙ drop-drop (header_len + sealed_chunk_len * number) start all
       ∙ ap (λ n. drop n all) (let e : start + (header_len + sealed_chunk_len * number) ≡ at = omega (arith, at_is) in e)
 
-  left : length all - at ≡ sealed_chunk_len * last + last_len + 16 - sealed_chunk_len * number
+  left : length all - at ≡ sealed_chunk_len * last + last_len + tag_len - sealed_chunk_len * number
   left = let size = ends.size in omega (arith, size, length-drop start all, at_is, in_range)
 
   pub enough : len ≤ length all - at
@@ -147,8 +148,8 @@ module _ (all : List ℕ) (start last last_len number len at : ℕ) (ends : Ends
   pub chunk_is : take len rest ≡ chunk_of file number
   chunk_is = elim (cases_eq number last) [
     | inl e ↦
-        let size : length rest ≡ last_len + 16 = omega (arith, length-drop at all, left, e) in
-        let whole : len ≡ last_len + 16 = omega (arith, len_is, message_len-last last last_len number e) in
+        let size : length rest ≡ last_len + tag_len = omega (arith, length-drop at all, left, e) in
+        let whole : len ≡ last_len + tag_len = omega (arith, len_is, message_len-last last last_len number e) in
         take_all len rest (omega (arith, size, whole)) ∙ sym (take_all sealed_chunk_len rest (omega (arith, size, short)))
         ∙ ap (take sealed_chunk_len) (sym rest_is)
     | inr ne ↦
@@ -164,10 +165,10 @@ module _ (all : List ℕ) (start last last_len number len at : ℕ) (ends : Ends
       → Q (number == last_chunk file) (chunk_of file number)
   of_read Q q = subst (λ l. Q (number == last_chunk file) l) chunk_is (subst (λ b. Q b (take len rest)) kind_is (q enough))
 
--- and so where the bytes are known
+-- what is said of a chunk that was read, where the bytes are known
 pub of_chunk : (bytes : Option (List ℕ)) (start last last_len i len place : ℕ) (Q : Bool → List ℕ → Type 0)
     → IfSome (file_from start bytes) (λ file. EndsAt file last last_len) → last_len ≤ chunk_len
-    → i ≤ last → len ≡ message_len last last_len i + 16 → place ≡ start + 60 + sealed_chunk_len * i
+    → i ≤ last → len ≡ message_len last last_len i + tag_len → place ≡ start + 60 + sealed_chunk_len * i
     → IfSome bytes (λ all. len ≤ length all - place → Q (i == last) (take len (drop place all)))
     → IfSome (file_from start bytes) (λ file. Q (i == last_chunk file) (chunk_of file i))
 of_chunk None start last last_len i len place Q ends short in_range len_is place_is q = tt
@@ -177,14 +178,14 @@ of_chunk (Some all) start last last_len i len place Q ends short in_range len_is
 -- the message is in front of what was written to
 pub message_of : {T E : Type 0} (r : Result T E) (file : Option (List ℕ)) (k : ChunkKey) (i len m : ℕ) (new after buffer : List ℕ)
     → IfSome file (λ file. IsOk r ↔ HasTagUnder k file i)
-    → IfSome file (λ file. OnOk r (take (len - 16) new ≡ opened_chunk k i (i == last_chunk file) (chunk_of file i)))
-    → len ≡ m + 16 → length new ≡ len → buffer ≡ new ++ after → IfSome file (λ file. OnOk r (IsMessageOf k file i (take m buffer)))
+    → IfSome file (λ file. OnOk r (take (len - tag_len) new ≡ opened_chunk k i (i == last_chunk file) (chunk_of file i)))
+    → len ≡ m + tag_len → length new ≡ len → buffer ≡ new ++ after → IfSome file (λ file. OnOk r (IsMessageOf k file i (take m buffer)))
 message_of r None k i len m new after buffer accepted opened len_is size buffer_is = tt
 message_of (Err e) (Some file) k i len m new after buffer accepted opened len_is size buffer_is = tt
 message_of (Ok v) (Some file) k i len m new after buffer accepted opened len_is size buffer_is = record {
   tag = accepted.0 refl;
   opened = ap (take m) buffer_is ∙ take-append-le m new after (omega (arith, len_is, size))
-      ∙ ap (λ n. take n new) (let e : m ≡ len - 16 = omega (arith, len_is) in e) ∙ opened;
+      ∙ ap (λ n. take n new) (let e : m ≡ len - tag_len = omega (arith, len_is) in e) ∙ opened;
 }
 
 pub refusal_of : {T : Type 0} (r : Result T FileError) (file : Option (List ℕ)) (k : ChunkKey) (i : ℕ)
@@ -243,7 +244,7 @@ held_then (Some j) i P e h = subst P (eqb-true j i e) h
 
 -- where the chunks are in known bytes
 pub ends_known : (file : Option (List ℕ)) (n last last_len : ℕ) → IfSome file (λ file. n ≡ length file) → IsSealedLen n
-    → last ≡ last_piece sealed_chunk_len (n - 60) → last_len ≡ n - 60 - sealed_chunk_len * last - 16 → IfSome file (λ file. EndsAt file last last_len)
+    → last ≡ last_piece sealed_chunk_len (n - 60) → last_len ≡ n - 60 - sealed_chunk_len * last - tag_len → IfSome file (λ file. EndsAt file last last_len)
 ends_known None n last last_len size sealed last_is len_is = tt
 ends_known (Some known) n last last_len size sealed last_is len_is = ends_at known n last last_len size sealed last_is len_is
 

@@ -1,5 +1,6 @@
--- The steps of sealing.
+-- The steps of sealing a file, chunk by chunk.
 use Rattle.std.proofs.Common.{◌≡◌, ℕ, Bool, true, false, IfSome, ◌+◌, ◌-◌, ◌*◌, ◌^◌, ◌<◌, ◌≤◌, List, [], ◌++◌, length, drop, refl, sym, ap, subst, ◌∙◌, arith, append_assoc, append-nil, ◌==◌, Option, eqb-true, length-append}
+use Rattle.aead_ciphers.specs.Gcm.{tag_len}
 use Rattle.std.specs.Io.KnownBytes.{Appends}
 use Rattle.std.proofs.KnownBytes.{Appends-nil, Appends-trans}
 use Rattle.std.proofs.lemmas.Bool.{eqb-false}
@@ -67,7 +68,7 @@ module _ (k : ChunkKey) (file : List ℕ) (n : ℕ) where
         )
 
     -- the chunk fits in the sealed file
-    pub seal_fits : length (sealed_before k file n) + length (piece chunk_len file n) + 16 ≤ length (sealed_file k file)
+    pub seal_fits : length (sealed_before k file n) + length (piece chunk_len file n) + tag_len ≤ length (sealed_file k file)
     unfolding sealed_chunks
     seal_fits =
         let p = length-parts-le (sealed_chunk_of k file) n (last_of file + 1) (omega arith) in

@@ -4,17 +4,17 @@ use Rattle.std.specs.List.{concat}
 use Rattle.std.specs.Int.{to_be_bytes, w32}
 use Rattle.aead_ciphers_base.specs.Bytes.{each_below}
 use Rattle.aead_ciphers_base.specs.Aes.{aes}
-use Rattle.aead_ciphers.specs.Gcm.{gcm_sealed}
+use Rattle.aead_ciphers.specs.Gcm.{gcm_sealed, tag_len}
 use Rattle.sealed_file.specs.declared.chunk.TheConstants.{CHUNK_LEN}
 use Rattle.sealed_file.specs.Derivation.{commitment}
 use Rattle.xaes.specs.Derivation.{derived_key}
 
--- the length of a chunk that is not the last, and of one that is sealed
+-- the length of a chunk that is not the last, and of one that is also sealed
 abbrev pub chunk_len : ℕ
 chunk_len = CHUNK_LEN
 
 abbrev pub sealed_chunk_len : ℕ
-sealed_chunk_len = chunk_len + 16
+sealed_chunk_len = chunk_len + tag_len
 
 -- piece i of bytes that are cut into pieces of `size` bytes, of which the last may be shorter
 abbrev pub piece : ℕ → List ℕ → ℕ → List ℕ

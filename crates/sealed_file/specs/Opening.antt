@@ -3,12 +3,12 @@ use Rattle.std.specs.Prelude.{◌≡◌, ℕ, Bool, ◌+◌, ◌-◌, ◌*◌, �
 use Rattle.std.specs.List.{concat}
 use Rattle.aead_ciphers_base.specs.Bytes.{each_below}
 use Rattle.aead_ciphers_base.specs.Aes.{aes}
-use Rattle.aead_ciphers.specs.Gcm.{gcm_decrypted, gcm_tag}
+use Rattle.aead_ciphers.specs.Gcm.{gcm_decrypted, gcm_tag, tag_len}
 use Rattle.sealed_file.specs.Format.{ChunkKey, Secret, chunk_len, chunk_nonce, last_piece, piece, sealed_chunk_len, sealed_chunk_of, fresh_key}
 
--- the bytes before the last 16, which are the tag
+-- the bytes before the tag
 abbrev pub ciphertext_of : List ℕ → List ℕ
-ciphertext_of sealed = take (length sealed - 16) sealed
+ciphertext_of sealed = take (length sealed - tag_len) sealed
 
 -- the tag defined for the ciphertext of the chunk with this number that is the last, or is not
 abbrev pub chunk_tag : (k : ChunkKey) (number : ℕ) (is_last : Bool) (ciphertext : List ℕ) → List ℕ
@@ -16,8 +16,8 @@ chunk_tag k number is_last ciphertext = gcm_tag (aes k.key) (chunk_nonce k.prefi
 
 -- the bytes end with the tag defined for the chunk with this number that is the last, or is not
 pub record HasTag (k : ChunkKey) (number : ℕ) (is_last : Bool) (sealed : List ℕ) : Type 0 where
-  pub size : 16 ≤ length sealed
-  pub tag : drop (length sealed - 16) sealed ≡ chunk_tag k number is_last (ciphertext_of sealed)
+  pub size : tag_len ≤ length sealed
+  pub tag : drop (length sealed - tag_len) sealed ≡ chunk_tag k number is_last (ciphertext_of sealed)
 
 -- the message of a sealed chunk
 unfoldable pub opened_chunk : (k : ChunkKey) (number : ℕ) (is_last : Bool) (sealed : List ℕ) → List ℕ
@@ -97,9 +97,9 @@ opened_file s file = plaintext_under (key_of s file) file
 
 -- the length of a sealed file: a header, and fewer than 2^32 chunks that each hold a tag
 pub record IsSealedLen (n : ℕ) : Type 0 where
-  pub header : 60 ≤ n
-  pub tag : sealed_chunk_len * last_piece sealed_chunk_len (n - 60) + 16 ≤ n - 60
-  pub few : last_piece sealed_chunk_len (n - 60) < 2 ^ 32 - 1
+  pub header : header_len ≤ n
+  pub tag : sealed_chunk_len * last_piece sealed_chunk_len (n - header_len) + tag_len ≤ n - header_len
+  pub few : last_piece sealed_chunk_len (n - header_len) < 2 ^ 32 - 1
 
 -- sealing the file made these bytes as chunk i, the last or not
 pub record IsMade (k : ChunkKey) (file : List ℕ) (i : ℕ) (is_last : Bool) (sealed : List ℕ) : Type 0 where

@@ -4,6 +4,7 @@ use Rattle.std.specs.Int.{from_be_bytes, to_be_bytes, w32}
 use Rattle.key_derivation.specs.Hash.{sha_256}
 use Rattle.key_derivation.specs.Pbkdf2.{pbkdf2}
 use Rattle.sealed_file.specs
+use Rattle.sealed_file.specs.Opening.{header_len}
 use specs.declared.error.FileError.{FileError}
 use specs.declared.error.FileError.TheVariants.{EndsEarly, Iterations, Io}
 use specs.Format.{ChunkKey, Secret, fresh_key, secret_of, with_header}
@@ -31,16 +32,16 @@ random_of file = take 19 (drop 9 file)
 
 -- the iterations in the header of a file of version 3, as its four bytes and as the number
 abbrev pub iteration_bytes : List ℕ → List ℕ
-iteration_bytes file = take 4 (drop 60 file)
+iteration_bytes file = take 4 (drop header_len file)
 
 abbrev pub iterations_of : List ℕ → ℕ
 iterations_of file = from_be_bytes w32 (iteration_bytes file)
 
--- what a file of version 3 is without its iterations
+-- a file of version 3 without its iterations
 abbrev pub core_of : List ℕ → List ℕ
 core_of file = header_of file ++ drop 64 file
 
--- what that is sealed under, if it is under this passphrase
+-- what a file of version 3 without its iterations is sealed under, if it is sealed under this passphrase
 abbrev pub unlocked : (passphrase aad file : List ℕ) → Secret
 unlocked passphrase aad file =
     secret_of 3 (passphrase_key passphrase (random_of file) (iterations_of file)) (iteration_bytes file ++ aad)

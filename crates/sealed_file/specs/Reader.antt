@@ -1,10 +1,11 @@
 -- A sealed file that is read at any position.
 use Rattle.std.specs.Prelude.{◌≡◌, ℕ, ◌+◌, ◌-◌, ◌*◌, ◌^◌, ◌<◌, ◌≤◌, List, length, take, drop, ◌⊎◌, Option, IfSome, ◌==◌, if◌then◌else◌}
+use Rattle.aead_ciphers.specs.Gcm.{tag_len}
 use Rattle.std.specs.Option.{option_map}
 use Rattle.sealed_file.specs.declared.error.FileError.{FileError}
 use Rattle.sealed_file.specs.declared.error.FileError.TheVariants.{EndsEarly, TooLong}
 use Rattle.sealed_file.specs.Format.{ChunkKey, Secret, chunk_len, last_piece, sealed_chunk_len}
-use Rattle.sealed_file.specs.Opening.{HasHeader, HasRightTag, HasTagUnder, IsSealedLen, chunk_of, header_of, key_of, last_chunk, opened_chunk}
+use Rattle.sealed_file.specs.Opening.{HasHeader, HasRightTag, HasTagUnder, IsSealedLen, chunk_of, header_of, key_of, last_chunk, opened_chunk, header_len}
 use Rattle.sealed_file.specs.Refusals.{HeaderRefuses, RefusesChunk}
 
 -- what a reader is of: the key of the chunks, the sealed file where its bytes are known, and the length of the file; the position
@@ -28,7 +29,7 @@ message_len last last_len i = if i == last then last_len else chunk_len
 -- a sealed file has its last chunk at `last`, with a message of `last_len` bytes
 pub record EndsAt (file : List ℕ) (last last_len : ℕ) : Type 0 where
   pub last_is : last ≡ last_chunk file
-  pub size : length file ≡ 60 + sealed_chunk_len * last + last_len + 16
+  pub size : length file ≡ header_len + sealed_chunk_len * last + last_len + tag_len
 
 -- chunk i of a sealed file has its tag under this key, and this message
 pub record IsMessageOf (k : ChunkKey) (file : List ℕ) (i : ℕ) (message : List ℕ) : Type 0 where
@@ -41,7 +42,7 @@ pub record IsReader (k : ChunkKey) (file : Option (List ℕ)) (start last last_l
     (buffer : List ℕ) : Type 0 where
   pub few : last < 2 ^ 32 - 1
   pub short : last_len ≤ chunk_len
-  pub fits : start + 60 + sealed_chunk_len * last + last_len + 16 < 2 ^ 64
+  pub fits : start + header_len + sealed_chunk_len * last + last_len + tag_len < 2 ^ 64
   pub room : length buffer ≡ sealed_chunk_len
   pub ends : IfSome file (λ file. EndsAt file last last_len)
   pub tag : IfSome file (λ file. HasTagUnder k file (last_chunk file))
@@ -57,8 +58,8 @@ pub record IsReadable (s : Secret) (file : List ℕ) : Type 0 where
 
 -- why no sealed file has this length
 abbrev pub LengthRefuses : ℕ → FileError → Type 0
-LengthRefuses n TooLong = 2 ^ 32 - 1 ≤ last_piece sealed_chunk_len (n - 60)
-LengthRefuses n EndsEarly = (last_piece sealed_chunk_len (n - 60) < 2 ^ 32 - 1) × ¬ IsSealedLen n
+LengthRefuses n TooLong = 2 ^ 32 - 1 ≤ last_piece sealed_chunk_len (n - header_len)
+LengthRefuses n EndsEarly = (last_piece sealed_chunk_len (n - header_len) < 2 ^ 32 - 1) × ¬ IsSealedLen n
 LengthRefuses n error = ⊥
 
 -- why a file can't be read: the first of its header, its length and its last chunk that is wrong

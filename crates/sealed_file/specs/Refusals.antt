@@ -1,10 +1,11 @@
--- The reason for each error.
+-- The reason for each error of sealing and opening files.
 use Rattle.std.specs.Prelude.{◌≡◌, ◌≢◌, ℕ, Bool, true, false, ◌-◌, ◌^◌, ◌<◌, ◌≤◌, ◌⊎◌, ⊤, List, length, take, drop, codes, slice_index, ◌==◌}
+use Rattle.aead_ciphers.specs.Gcm.{tag_len}
 use Rattle.sealed_file.specs.declared.error.FileError.{FileError}
 use Rattle.sealed_file.specs.declared.error.FileError.TheVariants.{AnotherMagic, AnotherVersion, WrongKey, EndsEarly, TrailingBytes, Refused, TooLong, OutOfMemory, Io}
 use Rattle.sealed_file.specs.Derivation.{commitment}
 use Rattle.sealed_file.specs.Format.{ChunkKey, Secret, chunk_len, last_piece, magic_and_version}
-use Rattle.sealed_file.specs.Opening.{HasTag, HasTagUnder, HasHeader, AreRight, chunk_of, header_of, key_of, last_chunk}
+use Rattle.sealed_file.specs.Opening.{HasTag, HasTagUnder, HasHeader, AreRight, chunk_of, header_of, key_of, last_chunk, header_len}
 
 -- why a file is not sealed
 abbrev pub SealRefuses : List ℕ → FileError → Type 0
@@ -19,7 +20,7 @@ pub record IsVersion (version : ℕ) (header : List ℕ) : Type 0 where
 -- a whole header of the version whose commitment is not that of this key for its random bytes
 pub record IsOfAnotherKey (s : Secret) (header : List ℕ) : Type 0 where
   pub version : IsVersion s.version header
-  pub size : length header ≡ 60
+  pub size : length header ≡ header_len
   pub other : drop 28 header ≢ commitment s.key (take 12 (drop 9 header))
 
 -- why bytes don't begin with the magic and this version
@@ -32,7 +33,7 @@ VersionRefuses version header error = ⊥
 
 -- why the bytes are not a header under this key
 abbrev pub HeaderRefuses : (s : Secret) (header : List ℕ) → FileError → Type 0
-HeaderRefuses s header EndsEarly = (length header < 9) ⊎ (IsVersion s.version header × (length header < 60))
+HeaderRefuses s header EndsEarly = (length header < 9) ⊎ (IsVersion s.version header × (length header < header_len))
 HeaderRefuses s header WrongKey = IsOfAnotherKey s header
 HeaderRefuses s header error = VersionRefuses s.version header error
 
@@ -40,13 +41,13 @@ HeaderRefuses s header error = VersionRefuses s.version header error
 -- after it
 abbrev pub ChunkRefuses : (k : ChunkKey) (number : ℕ) (is_last : Bool) (sealed : List ℕ) → FileError → Type 0
 ChunkRefuses k number is_last sealed EndsEarly =
-    (length sealed < 16) ⊎ ((is_last ≡ true) × HasTag k number false sealed)
+    (length sealed < tag_len) ⊎ ((is_last ≡ true) × HasTag k number false sealed)
 ChunkRefuses k number is_last sealed TrailingBytes = (is_last ≡ false) × HasTag k number true sealed
 ChunkRefuses k number is_last sealed (Refused at) =
-    (at ≡ number) × (16 ≤ length sealed) × ¬ HasTag k number true sealed × ¬ HasTag k number false sealed
+    (at ≡ number) × (tag_len ≤ length sealed) × ¬ HasTag k number true sealed × ¬ HasTag k number false sealed
 ChunkRefuses k number is_last sealed error = ⊥
 
--- chunk i of a sealed file has not its tag under this key, and why
+-- chunk i of a sealed file doesn't have its tag under this key, for which the error is the reason
 abbrev pub RefusesChunk : (k : ChunkKey) (file : List ℕ) (i : ℕ) → FileError → Type 0
 RefusesChunk k file i error =
     (¬ HasTagUnder k file i) × ChunkRefuses k i (i == last_chunk file) (chunk_of file i) error

@@ -20,11 +20,12 @@ abbrev pub AppendsAfter : (Front : Type 0) (s : Secret) (file : List ℕ) (old n
 AppendsAfter Front s file old new =
     (n : ℕ) × (0 < n → Front) × AreRight s file n × AppendsBeginning old new (opened_chunks s file n)
 
--- under a key, after a header that is right
+-- the writer's known bytes grow by such a beginning, of a file that is opened under a key
 abbrev pub AppendsRight : (s : Secret) (file : List ℕ) (old new : Option (List ℕ)) → Type 0
 AppendsRight s file old new = AppendsAfter (HasHeader s (header_of file)) s file old new
 
--- under a passphrase, after a whole header that is right, with iterations that are allowed
+-- the writer's known bytes grow by such a beginning, of a file that is opened under a passphrase; the header also has iterations
+-- that are allowed
 abbrev pub AppendsRightBy : (passphrase aad file : List ℕ) (old new : Option (List ℕ)) → Type 0
 AppendsRightBy passphrase aad file old new =
     let s = unlocked passphrase aad file in

@@ -2,14 +2,15 @@
 
 ghost use Rattle.std.specs.Prelude.{◌≡◌, ◌≤◌, ◌++◌, length};
 
-use crate::header::{HEADER_LEN, put};
+use crate::header::{HEADER_LEN, copy_at};
 use crate::passphrase::ITERATIONS_LEN;
 use std::marker::Model;
 
-/// The most bytes that the AAD of a caller may have.
+/// The maximum length of a caller's AAD, in bytes.
 pub const MAX_AAD_LEN: usize = 4096;
 
-/// The most bytes that the AAD has after the header's first `HEADER_LEN`: the iterations of version 3, and those of the caller.
+/// The maximum length of the AAD after the first `HEADER_LEN` bytes of the header: the iterations of version 3, and the caller's
+/// AAD.
 const MAX_REST_LEN: usize = ITERATIONS_LEN + MAX_AAD_LEN;
 
 /// The AAD of a file's chunks: the header, and then the bytes of the caller.
@@ -36,8 +37,8 @@ impl ChunkAad {
         ensures { result ≡ header.now ++ bytes.now }
     {
         let mut all = [0; HEADER_LEN + MAX_REST_LEN];
-        put(header, &mut all, 0);
-        put(bytes, &mut all, HEADER_LEN);
+        copy_at(header, &mut all, 0);
+        copy_at(bytes, &mut all, HEADER_LEN);
         ChunkAad {
             bytes: all,
             len: HEADER_LEN + bytes.len(),

@@ -1,4 +1,4 @@
-//! Sealing and opening one chunk.
+//! Sealing and opening one chunk of a file.
 
 ghost use Rattle.std.specs.Prelude.{◌≡◌, ◌≤◌, ◌↔◌, ◌++◌, length, vec_len, IsTrue, IsOk, IfErr, OnOk};
 ghost use Rattle.std.specs.Bool.{OnTrue, OnFalse};
@@ -17,7 +17,7 @@ pub const CHUNK_LEN: usize = 65536;
 /// The length in bytes of a sealed chunk, except the last, which may be shorter.
 pub const SEALED_CHUNK_LEN: usize = CHUNK_LEN + MAX_TAG_LEN;
 
-/// The most chunks that a file may have.
+/// The maximum number of chunks of a file.
 pub const MAX_CHUNKS: u32 = u32::MAX;
 
 /// The nonce of a chunk.
@@ -59,7 +59,7 @@ pub(crate) fn seal_chunk(
     Ok(())
 }
 
-/// Decrypts a ciphertext of at most `CHUNK_LEN` bytes in place, and returns whether it has this tag.
+/// Decrypts a ciphertext of at most `CHUNK_LEN` bytes in place if it has this tag, and returns whether it has.
 fn has_opened(
     cipher: &ChunkCipher,
     number: u32,
@@ -82,7 +82,7 @@ fn has_opened(
         .is_ok()
 }
 
-/// Decrypts the ciphertext of a chunk in place, at most `CHUNK_LEN` bytes, if they have this tag. On an error the ciphertext is
+/// Decrypts the ciphertext of a chunk, at most `CHUNK_LEN` bytes, in place if it has this tag. On an error the ciphertext is
 /// unchanged, or decrypted as a chunk of the other kind.
 pub(crate) fn open_ciphertext(
     cipher: &ChunkCipher,
@@ -113,7 +113,7 @@ pub(crate) fn open_ciphertext(
     Err(FileError::Refused(number))
 }
 
-/// Opens a sealed chunk of at most `CHUNK_LEN` bytes and its tag, and leaves the message.
+/// Opens a sealed chunk, of at most `CHUNK_LEN` bytes and a tag, in place. The message is then all that `chunk` holds.
 pub(crate) fn open_chunk(
     cipher: &ChunkCipher,
     number: u32,

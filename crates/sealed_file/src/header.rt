@@ -1,8 +1,8 @@
-//! The header of a sealed file, and the key that follows from it.
+//! The header of a sealed file, and the key of the chunks after it.
 
 ghost use Rattle.std.specs.Prelude.{ℕ, List, ◌≡◌, ◌+◌, ◌≤◌, ◌↔◌, ◌++◌, length, take, drop, IsOk, IfOk, IfErr};
 ghost use Rattle.sealed_file.specs.Format.{fresh_key, magic_and_version, secret, secret_of};
-ghost use Rattle.sealed_file.specs.Opening.{HasHeader, chunk_key, header_of};
+ghost use Rattle.sealed_file.specs.Opening.{HasHeader, chunk_key, header_of, header_len};
 ghost use Rattle.sealed_file.specs.Refusals.{HeaderRefuses, IsVersion, VersionRefuses};
 
 use crate::aad::ChunkAad;
@@ -71,7 +71,7 @@ impl ChunkCipher {
     /// Returns the file's header.
     pub(crate) fn header(&self) -> &[u8]
         ensures bytes { result.now ≡ self.now.header }
-        ensures len { length result.now ≡ 60 }
+        ensures len { length result.now ≡ header_len }
     {
         &self.header
     }
@@ -84,11 +84,11 @@ impl ChunkCipher {
         self.aad.as_slice()
     }
 
-    /// The key of a file of this version with these random bytes. `aad` is the AAD after the header.
+    /// Creates the key of the chunks of a file of this version with these random bytes. `aad` is the AAD after the header.
     pub(crate) fn new(version: u8, key: &FileKey, aad: &[u8], random: &FileRandom) -> ChunkCipher
         requires { length aad.now ≤ 4100 }
         ensures made { result ≡ fresh_key (secret_of version key.now aad.now) random.now }
-        ensures size { length result.header ≡ 60 }
+        ensures size { length result.header ≡ header_len }
     {
         let random = random.as_bytes();
         let context = context_of(random);
@@ -131,15 +131,15 @@ fn prefix_of(random: &[u8; RANDOM_LEN]) -> Prefix
     prefix
 }
 
-/// Writes bytes into others, from `at` on.
-pub(crate) fn put(bytes: &[u8], all: &mut [u8], at: usize)
+/// Copies `bytes` into `all`, from index `at` on.
+pub(crate) fn copy_at(bytes: &[u8], all: &mut [u8], at: usize)
     requires { at + length bytes.now ≤ length all.old }
     ensures { all.new ≡ take at all.old ++ (bytes.now ++ drop (at + length bytes.now) all.old) }
 {
     all[at..at + bytes.len()].copy_from_slice(bytes);
 }
 
-/// The header of this version with these random bytes and this commitment.
+/// Returns the header of this version with these random bytes and this commitment.
 fn header_with(
     version: u8,
     random: &[u8; RANDOM_LEN],
@@ -148,14 +148,14 @@ fn header_with(
     ensures { result ≡ magic_and_version version ++ (random.now ++ commitment.now) }
 {
     let mut header = [0; HEADER_LEN];
-    put(&MAGIC, &mut header, 0);
-    put(&[version], &mut header, VERSION_AT);
-    put(random, &mut header, FRONT_LEN);
-    put(commitment, &mut header, FRONT_LEN + RANDOM_LEN);
+    copy_at(&MAGIC, &mut header, 0);
+    copy_at(&[version], &mut header, VERSION_AT);
+    copy_at(random, &mut header, FRONT_LEN);
+    copy_at(commitment, &mut header, FRONT_LEN + RANDOM_LEN);
     header
 }
 
-/// The header of a file that begins with these bytes, or the part of it that they hold.
+/// Returns the header of a file that begins with these bytes, or the part of it that they hold.
 pub(crate) fn read_header(file: &[u8]) -> &[u8]
     ensures { result.now ≡ header_of file.now }
 {
@@ -196,7 +196,7 @@ pub(crate) fn check_front(version: u8, header: &[u8]) -> Result<(), FileError>
 /// Fails unless these bytes begin with the magic, version 2 and a whole header. The commitment is not compared.
 pub fn check_header(file: &[u8]) -> Result<(), FileError>
     ensures accepted { IsOk result → IsVersion 2 (header_of file.now) }
-    ensures whole { IsOk result → 60 ≤ length file.now }
+    ensures whole { IsOk result → header_len ≤ length file.now }
     ensures refused { (key aad : List ℕ) → IfErr result (λ error.
         HeaderRefuses (secret key aad) (header_of file.now) error) }
 {
@@ -207,7 +207,7 @@ pub fn check_header(file: &[u8]) -> Result<(), FileError>
     Ok(())
 }
 
-/// The key of the chunks after this header, if it is one of this version. `aad` is the AAD after it. The whole header is
+/// Returns the key of the chunks after this header, if it is one of this version. `aad` is the AAD after it. The whole header is
 /// compared with the one that the key defines for its random bytes.
 fn cipher_in(
     version: u8,
@@ -215,7 +215,7 @@ fn cipher_in(
     aad: &[u8],
     header: &[u8],
 ) -> Result<ChunkCipher, FileError>
-    requires header { length header.now ≤ 60 }
+    requires header { length header.now ≤ header_len }
     requires aad { length aad.now ≤ 4100 }
     ensures accepted { IsOk result ↔ HasHeader (secret_of version key.now aad.now) header.now }
     ensures cipher { IfOk result (λ cipher. cipher ≡ chunk_key (secret_of version key.now aad.now) header.now) }

@@ -1,6 +1,7 @@
 //! Sealing and opening files in memory.
 
 ghost use Rattle.std.specs.Prelude.{[], ◌≡◌, ◌+◌, ◌-◌, ◌*◌, ◌^◌, ◌<◌, ◌≤◌, ◌↔◌, ◌++◌, length, vec_capacity, vec_len, take, drop, IsOk, IfErr, OnOk, OnErr};
+ghost use Rattle.aead_ciphers.specs.Gcm.{tag_len};
 ghost use Rattle.sealed_file.specs.Format.{Secret, chunk_len, sealed_chunk_len, last_piece, piece, sealed_chunk, sealed_file, secret, fresh_key};
 ghost use Rattle.sealed_file.specs.Opening.{HasTag, IsSealed, body_of, chunk_of, last_chunk, opened_chunk, opened_file};
 ghost use Rattle.sealed_file.specs.Refusals.{ChunkRefuses, FailsInMemory, OpenRefuses, SealRefuses};
@@ -66,7 +67,7 @@ fn seal_chunk_from(
 /// Seals a chunk of at most `CHUNK_LEN` bytes, and appends it to `out`, which has room for it and its tag.
 fn append_sealed(cipher: &ChunkCipher, number: u32, is_last: bool, chunk: &[u8], out: &mut Vec<u8>)
     requires chunk { length chunk.now ≤ chunk_len }
-    requires room { vec_len out.old + length chunk.now + 16 ≤ vec_capacity out.old }
+    requires room { vec_len out.old + length chunk.now + tag_len ≤ vec_capacity out.old }
     ensures sealed { out.new.items
         ≡ out.old.items ++ sealed_chunk cipher.now number is_last chunk.now }
     ensures capacity { vec_capacity out.old ≤ vec_capacity out.new }
@@ -165,7 +166,7 @@ pub(crate) fn append_opened(
     out: &mut Vec<u8>,
 ) -> Result<(), FileError>
     requires chunk { length sealed.now ≤ sealed_chunk_len }
-    requires room { vec_len out.old + (length sealed.now - 16) ≤ vec_capacity out.old }
+    requires room { vec_len out.old + (length sealed.now - tag_len) ≤ vec_capacity out.old }
     ensures front { take (vec_len out.old) out.new.items ≡ out.old.items }
     ensures accepted { IsOk result ↔ HasTag cipher.now number is_last sealed.now }
     ensures opened { OnOk result (out.new.items
@@ -213,7 +214,7 @@ fn opened_file_len(sealed: &[u8]) -> usize
     last * CHUNK_LEN + (body - last * SEALED_CHUNK_LEN).saturating_sub(MAX_TAG_LEN)
 }
 
-/// `open_bytes`, except that on an error bytes may follow those that `out` held.
+/// Like `open_bytes`, but on an error bytes may follow those that `out` held.
 fn append_opened_file(key: &FileKey, sealed: &[u8], out: &mut Vec<u8>) -> Result<(), FileError>
     ensures front { take (vec_len out.old) out.new.items ≡ out.old.items }
     ensures accepted { IsOk result → IsSealed (secret key.now []) sealed.now }

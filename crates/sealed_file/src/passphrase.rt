@@ -24,19 +24,19 @@ use std::io::{self, Read, Write};
 /// The version of the format of a file that is sealed under a passphrase.
 pub const PASSPHRASE_VERSION: u8 = 3;
 
-/// The length in bytes of the iterations in the header.
+/// The length in bytes of the number of iterations in the header.
 pub(crate) const ITERATIONS_LEN: usize = 4;
 
 /// The length in bytes of the header of a file that is sealed under a passphrase: that of any file, and the iterations.
 pub const PASSPHRASE_HEADER_LEN: usize = HEADER_LEN + ITERATIONS_LEN;
 
-/// The iterations of PBKDF2 to seal a file with.
+/// The number of iterations of PBKDF2 to seal a file with.
 pub const ITERATIONS: u32 = 600_000;
 
-/// The most iterations that a file may have.
+/// The maximum number of iterations of a file.
 pub const MAX_ITERATIONS: u32 = 10_000_000;
 
-/// The key that a passphrase has for a file with these random bytes.
+/// Derives the key of a passphrase for a file with these random bytes.
 fn passphrase_key(passphrase: &[u8], random: &[u8], iterations: u32) -> FileKey
     requires { 0 < iterations }
     ensures { result ≡ passphrase_key passphrase.now random.now iterations }
@@ -48,7 +48,7 @@ fn passphrase_key(passphrase: &[u8], random: &[u8], iterations: u32) -> FileKey
     }
 }
 
-/// Both, one after the other.
+/// Returns `first` followed by `second`.
 fn concatenated(alloc: Global, first: &[u8], second: &[u8]) -> io::Result<Vec<u8>>
     ensures { IfOk result (λ both. both.items ≡ first.now ++ second.now) }
 {
@@ -127,7 +127,7 @@ struct Unlocked {
     aad: Vec<u8>,
 }
 
-/// What the file that begins with these bytes and has these iterations is sealed under, if it is under this passphrase.
+/// Derives what a file is sealed under, if it is sealed under this passphrase. It begins with these bytes, and has these iterations.
 fn derive_key_and_aad(
     alloc: Global,
     passphrase: &[u8],

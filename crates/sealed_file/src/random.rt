@@ -1,4 +1,4 @@
-//! The random bytes of a file.
+//! The random bytes of a sealed file: its context and its prefix.
 
 ghost use Rattle.std.specs.Prelude.{◌≡◌, length, IfOk};
 
@@ -24,7 +24,7 @@ impl Model for FileRandom {
 }
 
 impl FileRandom {
-    /// The random bytes in a header.
+    /// Creates the random bytes of a file from those in its header.
     pub(crate) fn of_bytes(bytes: [u8; RANDOM_LEN]) -> FileRandom
         ensures { result ≡ bytes }
     {

@@ -1,6 +1,7 @@
 //! Opening one chunk of a sealed file without the others.
 
 ghost use Rattle.std.specs.Prelude.{ℕ, List, ◌≡◌, ◌+◌, ◌-◌, ◌<◌, ◌≤◌, ◌↔◌, ◌++◌, length, vec_capacity, vec_len, take, IsOk, IsSome, IfErr, OnOk, OnErr};
+ghost use Rattle.aead_ciphers.specs.Gcm.{tag_len};
 ghost use Rattle.sealed_file.specs.Format.{Secret, sealed_chunk_len, secret};
 ghost use Rattle.sealed_file.specs.Opening.{HasHeader, HasTag, IsSealed, IsSealedLen, header_of, key_of, opened_chunk, opened_file};
 ghost use Rattle.sealed_file.specs.Refusals.{ChunkAtRefuses, FailsInMemory};
@@ -13,7 +14,7 @@ use crate::key::FileKey;
 use crate::reader::last_of;
 use aead_ciphers::aead::MAX_TAG_LEN;
 
-/// `open_chunk_at`, except that on an error bytes may follow those that `out` held.
+/// Like `open_chunk_at`, but on an error bytes may follow those that `out` held.
 fn append_chunk_at(
     key: &FileKey,
     aad: &[u8],
@@ -30,7 +31,7 @@ fn append_chunk_at(
     ensures tag { IsOk result → HasTag (key_of (secret key.now aad.now) header.now) number is_last sealed.now }
     ensures opened { OnOk result (out.new.items
         ≡ out.old.items ++ opened_chunk (key_of (secret key.now aad.now) header.now) number is_last sealed.now) }
-    ensures refused { let grown = vec_len out.old + (length sealed.now - 16) in
+    ensures refused { let grown = vec_len out.old + (length sealed.now - tag_len) in
         IfErr result (λ error. FailsInMemory (vec_capacity out.old < grown)
         (ChunkAtRefuses (secret key.now aad.now) header.now number is_last sealed.now) error) }
 {
@@ -82,10 +83,10 @@ pub fn open_chunk_at(
     ensures tag { IsOk result → HasTag (key_of (secret key.now aad.now) header.now) number is_last sealed.now }
     ensures opened { OnOk result (out.new.items
         ≡ out.old.items ++ opened_chunk (key_of (secret key.now aad.now) header.now) number is_last sealed.now) }
-    ensures accepted { let grown = vec_len out.old + (length sealed.now - 16) in
+    ensures accepted { let grown = vec_len out.old + (length sealed.now - tag_len) in
         grown ≤ vec_capacity out.old → (IsOk result ↔ (HasHeader (secret key.now aad.now) (header_of header.now)
         × HasTag (key_of (secret key.now aad.now) header.now) number is_last sealed.now)) }
-    ensures refused { let grown = vec_len out.old + (length sealed.now - 16) in
+    ensures refused { let grown = vec_len out.old + (length sealed.now - tag_len) in
         IfErr result (λ error. FailsInMemory (vec_capacity out.old < grown)
         (ChunkAtRefuses (secret key.now aad.now) header.now number is_last sealed.now) error) }
     ensures kept { OnErr result (out.new.items ≡ out.old.items) }

@@ -1,8 +1,9 @@
 //! Reading a sealed file at any position.
 
 ghost use Rattle.std.specs.Prelude.{◌≡◌, ◌+◌, ◌-◌, ◌*◌, ◌/◌, ◌%◌, ◌^◌, ◌<◌, ◌≤◌, ◌⊎◌, ◌↔◌, ◌==◌, ⊤, length, vec_capacity, min, take, drop, IsOk, IsSome, IfOk, IfSome, IfErr, OnOk, OnErr};
+ghost use Rattle.aead_ciphers.specs.Gcm.{tag_len};
 ghost use Rattle.sealed_file.specs.Format.{chunk_len, last_piece, sealed_chunk_len, secret};
-ghost use Rattle.sealed_file.specs.Opening.{HasHeader, HasTag, HasTagUnder, IsSealedLen, header_of, key_of, last_chunk, opened_chunk, opened_file, plaintext_under};
+ghost use Rattle.sealed_file.specs.Opening.{HasHeader, HasTag, HasTagUnder, IsSealedLen, header_of, key_of, last_chunk, opened_chunk, opened_file, plaintext_under, header_len};
 ghost use Rattle.sealed_file.specs.Reader.{EndsAt, IsMessageOf, IsReadable, LengthRefuses, ReaderRefuses, file_from, message_len};
 ghost use Rattle.sealed_file.specs.Refusals.{ChunkRefuses, FailsInMemory, HeaderRefuses, RefusesChunk};
 
@@ -71,8 +72,8 @@ impl<R: ReadAt> Model for SealedReader<R> {
 /// The number of the last chunk of a sealed file of this length, and the length of its message.
 pub(crate) fn last_of(sealed_len: u64) -> Result<(u32, usize), FileError>
     ensures accepted { IsOk result ↔ IsSealedLen sealed_len }
-    ensures last { IfOk result (λ last. last.0 ≡ last_piece sealed_chunk_len (sealed_len - 60)) }
-    ensures len { IfOk result (λ last. last.1 ≡ sealed_len - 60 - sealed_chunk_len * last.0 - 16) }
+    ensures last { IfOk result (λ last. last.0 ≡ last_piece sealed_chunk_len (sealed_len - header_len)) }
+    ensures len { IfOk result (λ last. last.1 ≡ sealed_len - header_len - sealed_chunk_len * last.0 - tag_len) }
     ensures short { IfOk result (λ last. last.1 ≤ chunk_len) }
     ensures refused { IfErr result (λ error. LengthRefuses sealed_len error) }
 {
@@ -136,7 +137,7 @@ fn read_chunk_cipher<R: ReadAt>(
     cipher_of(VERSION, key, aad, &header[..count])
 }
 
-/// The length of the sealed file that begins at `start`.
+/// Returns the length of the sealed file that begins at `start`.
 fn sealed_len_of<R: ReadAt>(input: &mut R, start: u64) -> Result<u64, FileError>
     ensures known { IfSome (file_from start (R.bytes input.old)) (λ file. IsOk result) }
     ensures value { IfSome (file_from start (R.bytes input.old)) (λ file. IfOk result (λ n. n ≡ length file)) }
@@ -147,7 +148,7 @@ fn sealed_len_of<R: ReadAt>(input: &mut R, start: u64) -> Result<u64, FileError>
     Ok(end.saturating_sub(start))
 }
 
-/// Where the chunks are of the sealed file that begins at `start`, by its length.
+/// Returns where the chunks are in the sealed file that begins at `start`, from its length.
 fn layout_of<R: ReadAt>(input: &mut R, start: u64) -> Result<Layout, FileError>
     ensures accepted { IfSome (file_from start (R.bytes input.old)) (λ file. IsOk result ↔ IsSealedLen (length file)) }
     ensures ends { IfSome (file_from start (R.bytes input.old)) (λ file.
@@ -155,7 +156,7 @@ fn layout_of<R: ReadAt>(input: &mut R, start: u64) -> Result<Layout, FileError>
     ensures start { IfOk result (λ layout. layout.start ≡ start) }
     ensures few { IfOk result (λ layout. layout.last < 2 ^ 32 - 1) }
     ensures short { IfOk result (λ layout. layout.last_len ≤ chunk_len) }
-    ensures fits { IfOk result (λ layout. start + 60 + sealed_chunk_len * layout.last + layout.last_len + 16 < 2 ^ 64) }
+    ensures fits { IfOk result (λ layout. start + header_len + sealed_chunk_len * layout.last + layout.last_len + tag_len < 2 ^ 64) }
     ensures refused { IfSome (file_from start (R.bytes input.old)) (λ file.
         IfErr result (λ error. LengthRefuses (length file) error)) }
     ensures same { R.bytes input.new ≡ R.bytes input.old }
@@ -183,7 +184,7 @@ fn read_exact_at<R: ReadAt>(input: &mut R, at: u64, buf: &mut [u8]) -> Result<()
     Ok(())
 }
 
-/// Opens a sealed chunk of at most `CHUNK_LEN` bytes and its tag, whose message is then in front.
+/// Opens a sealed chunk, of at most `CHUNK_LEN` bytes and a tag, in place. Its message is then at the front of `sealed`.
 fn open_slice(
     cipher: &ChunkCipher,
     number: u32,
@@ -192,7 +193,7 @@ fn open_slice(
 ) -> Result<(), FileError>
     requires { length sealed.old ≤ sealed_chunk_len }
     ensures accepted { IsOk result ↔ HasTag cipher.now number is_last sealed.old }
-    ensures opened { OnOk result (take (length sealed.old - 16) sealed.new ≡ opened_chunk cipher.now number is_last sealed.old) }
+    ensures opened { OnOk result (take (length sealed.old - tag_len) sealed.new ≡ opened_chunk cipher.now number is_last sealed.old) }
     ensures refused { IfErr result (λ error. ChunkRefuses cipher.now number is_last sealed.old error) }
     ensures len { length sealed.new ≡ length sealed.old }
 {
@@ -204,7 +205,8 @@ fn open_slice(
     open_ciphertext(cipher, number, is_last, &tag, &mut sealed[..len])
 }
 
-/// Reads a sealed chunk of at most `SEALED_CHUNK_LEN` bytes from `at` on and opens it, so that its message is in front.
+/// Reads a sealed chunk of at most `SEALED_CHUNK_LEN` bytes from `at` on and opens it, so that its message is at the front of
+/// `sealed`.
 fn open_from<R: ReadAt>(
     input: &mut R,
     at: u64,
@@ -217,7 +219,7 @@ fn open_from<R: ReadAt>(
     ensures accepted { IfSome (R.bytes input.old) (λ all. length sealed.old ≤ length all - at
         → (IsOk result ↔ HasTag cipher.now number is_last (take (length sealed.old) (drop at all)))) }
     ensures opened { IfSome (R.bytes input.old) (λ all. length sealed.old ≤ length all - at
-        → OnOk result (take (length sealed.old - 16) sealed.new
+        → OnOk result (take (length sealed.old - tag_len) sealed.new
         ≡ opened_chunk cipher.now number is_last (take (length sealed.old) (drop at all)))) }
     ensures refused { IfSome (R.bytes input.old) (λ all. length sealed.old ≤ length all - at → IfErr result (λ error.
         ChunkRefuses cipher.now number is_last (take (length sealed.old) (drop at all)) error)) }
@@ -238,7 +240,7 @@ fn open_chunk_of<R: ReadAt>(
 ) -> Result<(), FileError>
     requires in_range { number ≤ layout.last }
     requires short { layout.last_len ≤ chunk_len }
-    requires fits { layout.start + 60 + sealed_chunk_len * layout.last + layout.last_len + 16 < 2 ^ 64 }
+    requires fits { layout.start + header_len + sealed_chunk_len * layout.last + layout.last_len + tag_len < 2 ^ 64 }
     requires room { length buffer.old ≡ sealed_chunk_len }
     requires ends { IfSome (file_from layout.start (R.bytes input.old)) (λ file. EndsAt file layout.last layout.last_len) }
     ensures accepted { IfSome (file_from layout.start (R.bytes input.old)) (λ file.
@@ -298,7 +300,7 @@ impl<R: ReadAt + Drop> SealedReader<R> {
         SealedReader::with_buffer(key, aad, input, start, buffer)
     }
 
-    /// `new`, except that the reader works in `buffer`, whose bytes it overwrites. It allocates nothing if the capacity of
+    /// Like `new`, but the reader works in `buffer`, whose bytes it overwrites. It allocates nothing if the capacity of
     /// `buffer` is at least `SEALED_CHUNK_LEN`, and fails with `OutOfMemory` only if it is less and cannot grow.
     pub fn with_buffer(
         key: &FileKey,

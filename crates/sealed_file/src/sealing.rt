@@ -1,4 +1,4 @@
-//! Sealing a file.
+//! Sealing a file from one stream to another.
 
 ghost use Rattle.std.specs.Prelude.{[], ◌-◌, ◌^◌, ◌<◌, ◌≤◌, length, IfErr, IfSome, OnOk, OnErr};
 ghost use Rattle.std.specs.Io.KnownBytes.{Appends};
@@ -62,8 +62,8 @@ pub fn seal<R: Read, W: Write>(
     seal_with_aad(alloc, key, random, &[], input, output)
 }
 
-/// `seal`, except that the file is bound to `aad`, at most `MAX_AAD_LEN` bytes: it opens only with the same bytes, which are not in
-/// it. With none it is the same sealed file.
+/// Like `seal`, but binds the file to `aad`, at most `MAX_AAD_LEN` bytes: it opens only with the same bytes, which are not in it.
+/// Without any, the sealed file is that of `seal`.
 pub fn seal_with_aad<R: Read, W: Write>(
     alloc: Global,
     key: &FileKey,

@@ -1,14 +1,15 @@
 use Rattle.std.proofs.Common.{◌≡◌, ◌++◌, ◌<◌, inl, length, drop, subst, ◌∙◌, take_at}
+use Rattle.aead_ciphers.specs.Gcm.{tag_len}
 use Rattle.sealed_file.proofs
 use proofs.ChunkLemmas.{has_none, rejoined}
 use proofs.chunk.open_chunk.Goals as goal
 
 pub returns-in_default-clause-accepted : goal.returns-in_default-clause-accepted
 returns-in_default-clause-accepted c =
-    has_none _ _ _ _ (subst (λ l. length l < 16) c.deref.ensures.value c.in_default.ensures.cases)
+    has_none _ _ _ _ (subst (λ l. length l < tag_len) c.deref.ensures.value c.in_default.ensures.cases)
 
 pub returns-in_default-clause-refused : goal.returns-in_default-clause-refused
-returns-in_default-clause-refused c = inl (subst (λ l. length l < 16) c.deref.ensures.value c.in_default.ensures.cases)
+returns-in_default-clause-refused c = inl (subst (λ l. length l < tag_len) c.deref.ensures.value c.in_default.ensures.cases)
 
 -- what is opened and its tag
 whole : (c : goal.After-chunk-1) → c.deref_mut.result.now ++ c.in-Some.tag.now ≡ c.args.chunk.now.items

@@ -1,4 +1,5 @@
 use Rattle.std.proofs.Common.{◌≡◌, ℕ, ◌+◌, ◌*◌, List, Some, sym, ◌++◌, length, ap, ◌∙◌, ◌==◌, []}
+use Rattle.aead_ciphers.specs.Gcm.{tag_len}
 use Rattle.std.proofs.Math.Nat.{le_trans}
 use Rattle.std.proofs.lemmas.Result.{err_from_is_err_and}
 use Rattle.sealed_file.specs.Format.{ChunkKey, secret, fresh_key, sealed_file}
@@ -11,7 +12,7 @@ use proofs.in_memory.seal_bytes.Goals as goal
 
 -- what room was asked for, as `sealed_len` says
 len_is : (key random file : List ℕ) (made : ChunkKey) (n : ℕ) → made ≡ fresh_key (secret key []) random → length made.header ≡ 60
-    → n ≡ last_of file → 60 + length file + (n + 1) * 16 ≡ length (sealed_file (fresh_key (secret key []) random) file)
+    → n ≡ last_of file → 60 + length file + (n + 1) * tag_len ≡ length (sealed_file (fresh_key (secret key []) random) file)
 len_is key random file made n made_is size n_is =
     sealed_len (fresh_key (secret key []) random) file n (sym (ap (λ (k : ChunkKey). length k.header) made_is) ∙ size) n_is
 

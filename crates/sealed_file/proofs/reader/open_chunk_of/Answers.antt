@@ -1,4 +1,5 @@
 use Rattle.std.proofs.Common.{◌↔◌, IsOk, IfErr, OnOk, ◌≡◌, ◌+◌, ◌-◌, length, take, arith, length-take, refl}
+use Rattle.aead_ciphers.specs.Gcm.{tag_len}
 use Rattle.sealed_file.specs.Opening.{HasTag, opened_chunk}
 use Rattle.sealed_file.specs.Refusals.{ChunkRefuses}
 use Rattle.sealed_file.proofs
@@ -10,17 +11,17 @@ returns-clause-accepted g c =
     let short = c.message_len-len.ensures.short in
     of_chunk _ _ _ _ _ _ _ (λ b l. IsOk c.open_from.result ↔ HasTag c.args.cipher.now c.args.number b l)
     c.requires.ends c.requires.short c.requires.in_range
-    (omega (arith, length-take (c.message_len-len.result + 16) c.args.buffer.now, c.requires.room, short, c.message_len-len.ensures.value))
+    (omega (arith, length-take (c.message_len-len.result + tag_len) c.args.buffer.now, c.requires.room, short, c.message_len-len.ensures.value))
     (omega (arith, c.from.ensures)) c.open_from.ensures.accepted
 
 pub returns-clause-message : goal.returns-clause-message
 returns-clause-message g c =
     let short = c.message_len-len.ensures.short in
-    let size : length (take (c.message_len-len.result + 16) c.args.buffer.now) ≡ c.message_len-len.result + 16 =
-    omega (arith, length-take (c.message_len-len.result + 16) c.args.buffer.now, c.requires.room, short) in
-    message_of c.open_from.result _ _ _ (length (take (c.message_len-len.result + 16) c.args.buffer.now)) _ c.open_from.new.sealed _ _ (returns-clause-accepted g c)
+    let size : length (take (c.message_len-len.result + tag_len) c.args.buffer.now) ≡ c.message_len-len.result + tag_len =
+    omega (arith, length-take (c.message_len-len.result + tag_len) c.args.buffer.now, c.requires.room, short) in
+    message_of c.open_from.result _ _ _ (length (take (c.message_len-len.result + tag_len) c.args.buffer.now)) _ c.open_from.new.sealed _ _ (returns-clause-accepted g c)
     (of_chunk _ _ _ _ _ _ _ (λ b l. OnOk c.open_from.result
-    (take (length (take (c.message_len-len.result + 16) c.args.buffer.now) - 16) c.open_from.new.sealed ≡ opened_chunk c.args.cipher.now c.args.number b l))
+    (take (length (take (c.message_len-len.result + tag_len) c.args.buffer.now) - tag_len) c.open_from.new.sealed ≡ opened_chunk c.args.cipher.now c.args.number b l))
     c.requires.ends c.requires.short c.requires.in_range
     (omega (arith, size, c.message_len-len.ensures.value))
     (omega (arith, c.from.ensures)) c.open_from.ensures.opened)
@@ -32,5 +33,5 @@ returns-clause-refused g c =
     refusal_of c.open_from.result _ _ _ (returns-clause-accepted g c)
     (of_chunk _ _ _ _ _ _ _ (λ b l. IfErr c.open_from.result (λ error. ChunkRefuses c.args.cipher.now c.args.number b l error))
     c.requires.ends c.requires.short c.requires.in_range
-    (omega (arith, length-take (c.message_len-len.result + 16) c.args.buffer.now, c.requires.room, short, c.message_len-len.ensures.value))
+    (omega (arith, length-take (c.message_len-len.result + tag_len) c.args.buffer.now, c.requires.room, short, c.message_len-len.ensures.value))
     (omega (arith, c.from.ensures)) c.open_from.ensures.refused)

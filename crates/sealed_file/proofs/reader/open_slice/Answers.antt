@@ -1,4 +1,5 @@
 use Rattle.std.proofs.Common.{◌≡◌, ◌++◌, ◌-◌, inl, length, take, drop, refl, ◌∙◌, take_at}
+use Rattle.aead_ciphers.specs.Gcm.{tag_len}
 use Rattle.std.proofs.Math.Seq.{length_front}
 use Rattle.sealed_file.proofs
 use proofs.ChunkLemmas.{has_none, length-ciphertext, rejoined}
@@ -12,7 +13,7 @@ returns-in_default-clause-refused c = inl c.in_default.ensures.cases
 
 -- what is opened and its tag
 whole : (c : goal.After-slice_known-2-1)
-    → take (length c.args.sealed.now - 16) c.args.sealed.now ++ c.in-Some.tag.now ≡ c.args.sealed.now
+    → take (length c.args.sealed.now - tag_len) c.args.sealed.now ++ c.in-Some.tag.now ≡ c.args.sealed.now
 whole c = rejoined _ _ _ _ _ refl c.in-Some.ensures.cases.1.same refl refl
 
 pub returns-clause-accepted : goal.returns-clause-accepted
@@ -21,7 +22,7 @@ returns-clause-accepted c = rw (whole c) at c.open_ciphertext.ensures.accepted
 pub returns-clause-opened : goal.returns-clause-opened
 returns-clause-opened c =
     let sealed = c.args.sealed.now in
-    rw (take_at c.open_ciphertext.new.ciphertext (drop (length sealed - 16) sealed) (length sealed - 16)
+    rw (take_at c.open_ciphertext.new.ciphertext (drop (length sealed - tag_len) sealed) (length sealed - tag_len)
     (c.open_ciphertext.auto.ciphertext ∙ length-ciphertext sealed)) (rw (whole c) at c.open_ciphertext.ensures.opened)
 
 pub returns-clause-refused : goal.returns-clause-refused

@@ -9,6 +9,6 @@ returns c =
     let header = c.args.header.now in
     let bytes = c.args.bytes.now in
     let len : ℕ = 60 + length bytes in
-    let one = put_next zeros [] header _ _ 0 refl refl c.put.ensures in
-    let two = put_next zeros header bytes _ _ 60 (omega (arith, c.told-header)) one c.put-2.ensures in
+    let one = put_next zeros [] header _ _ 0 refl refl c.copy_at.ensures in
+    let two = put_next zeros header bytes _ _ 60 (omega (arith, c.told-header)) one c.copy_at-2.ensures in
     ap (take len) two ∙ take_at (header ++ bytes) _ len (omega (arith, length-append header bytes, c.told-header))
