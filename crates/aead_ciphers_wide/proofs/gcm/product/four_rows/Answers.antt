@@ -1,4 +1,4 @@
-use Rattle.std.proofs.Common.{ℕ, ◌≡◌, ◌<◌, ◌+◌, ◌*◌, ◌/◌, ◌%◌, [], ◌∷◌, ◌++◌, ◌∙◌, ap₂, arith, bit_xor, get_or, refl, slice_index_or}
+use Rattle.std.proofs.Common.{ℕ, ◌≡◌, ◌+◌, ◌*◌, ◌/◌, ◌%◌, [], ◌∷◌, ◌++◌, ◌∙◌, ap₂, arith, bit_xor, get_or, refl, slice_index_or}
 use Rattle.aead_ciphers_base.specs.Bytes.{each_below}
 use Rattle.aead_ciphers_base.proofs.PlaneBlocks.{by_four}
 use Rattle.aead_ciphers_base.proofs.EachLemmas.{each-same}
