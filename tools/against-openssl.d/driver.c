@@ -14,9 +14,11 @@
 #include <sys/mman.h>
 #endif
 
+#ifndef MAX_MESSAGE
 #define MAX_MESSAGE 70000
 #define MAX_AAD 600
 #define MAX_START 70000
+#endif
 #define THREADS 8
 #define SHARED 40
 
@@ -107,16 +109,16 @@ static void encrypt(const EVP_CIPHER *cipher, const uint8_t *key, const uint8_t 
     EVP_CIPHER_CTX_free(context);
 }
 
-/* The key of a message of XAES-256-GCM (c2sp.org/XAES-256-GCM): AES-256 of M1 XOR K1 and of M2 XOR K1, where K1 is CMAC's first
- * subkey (SP 800-38B section 6.1), and M1 and M2 are 00 01 58 00 and 00 02 58 00, each before the first 12 bytes of the nonce. */
-static void derive(const uint8_t key[32], const uint8_t nonce[XAES_NONCE], uint8_t derived[32]) {
-    uint8_t k1[16] = {0}, m[] = {0, 0, 'X', 0};
+/* AES-256 of M1 XOR K1 and of M2 XOR K1, where K1 is CMAC's first subkey (SP 800-38B section 6.1), and M1 and M2 are a number in
+ * two bytes, 58 00, and the first 12 bytes of the nonce. From 1 on, it is the key of a message of XAES-256-GCM
+ * (c2sp.org/XAES-256-GCM). */
+static void derive(const uint8_t key[32], uint8_t first, const uint8_t *nonce, uint8_t derived[32]) {
+    uint8_t k1[16] = {0}, m[] = {0, first, 'X', 0};
     encrypt(EVP_aes_256_ecb(), key, NULL, k1, sizeof k1);
     unsigned first_bit = k1[0] >> 7;
     for (int i = 0; i < 16; i++) k1[i] = (uint8_t)(k1[i] << 1 | (i < 15 ? k1[i + 1] >> 7 : 0));
     if (first_bit) k1[15] ^= 0x87;
-    for (uint8_t *block = derived; block < derived + 32; block += 16) {
-        m[1]++;
+    for (uint8_t *block = derived; block < derived + 32; block += 16, m[1]++) {
         memcpy(block, m, sizeof m);
         memcpy(block + sizeof m, nonce, 12);
         for (int i = 0; i < 16; i++) block[i] ^= k1[i];
@@ -127,7 +129,7 @@ static void derive(const uint8_t key[32], const uint8_t nonce[XAES_NONCE], uint8
 static void expect_sealed(sealing *s) {
     const EVP_CIPHER *cipher = s->key_len == 16 ? EVP_aes_128_gcm() : EVP_aes_256_gcm();
     uint8_t derived[32];
-    if (s->is_xaes) derive(s->key, s->nonce, derived);
+    if (s->is_xaes) derive(s->key, 1, s->nonce, derived);
     EVP_CIPHER_CTX *context = started(cipher, s->is_xaes ? derived : s->key, s->nonce + s->nonce_len - NONCE);
     int written = 0;
     if (s->aad_len) CHECK(EVP_EncryptUpdate(context, NULL, &written, s->aad, (int)s->aad_len) == 1);
