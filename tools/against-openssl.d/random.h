@@ -1,4 +1,5 @@
-/* What driver.c and secrets.c share: random bytes, checks, and buffers between canaries. */
+/* What driver.c and secrets.c share: random bytes, checks, and buffers between canaries. With FUZZED, the bytes are the input
+ * of a target of tools/fuzz, and the buffers are beside pages without access. */
 #include "deerlapse.h"
 #include <stdio.h>
 #include <stdlib.h>
@@ -27,22 +28,22 @@ static unsigned long calls;
 #define SAME(a, b) (memcmp(&(a), &(b), sizeof(a)) == 0)
 
 /* Marsaglia's xorshift of 64 bits. */
-static uint64_t next_random(void) {
+static uint64_t xorshift(void) {
     state ^= state << 13;
     state ^= state >> 7;
     state ^= state << 17;
     return state;
 }
 
+#ifdef FUZZED
+#include "../fuzz.d/input.h"
+#else
+static uint64_t next_random(void) { return xorshift(); }
+
 static size_t below(size_t n) { return (size_t)(next_random() >> 11) % n; }
 
 static void fill(uint8_t *bytes, size_t len) {
     for (size_t i = 0; i < len; i++) bytes[i] = (uint8_t)(next_random() >> 24);
-}
-
-static void flip_a_bit(uint8_t *bytes, size_t len) {
-    size_t bit = below(8 * len);
-    bytes[bit / 8] ^= (uint8_t)(1 << bit % 8);
 }
 
 /* A copy of bytes, between canaries. */
@@ -57,4 +58,10 @@ static uint8_t *guarded(const uint8_t *bytes, size_t len) {
 static void release(uint8_t *copy, size_t len) {
     for (size_t i = 0; i < CANARY; i++) CHECK(copy[len + i] == 0xc3 && *(copy - 1 - i) == 0xc3);
     free(copy - CANARY);
+}
+#endif
+
+static inline void flip_a_bit(uint8_t *bytes, size_t len) {
+    size_t bit = below(8 * len);
+    bytes[bit / 8] ^= (uint8_t)(1 << bit % 8);
 }
