@@ -546,6 +546,7 @@ impl RecordKey {
     }
 
     /// Opens the record `bytes[at..end]`, which has this header, into the bytes from `filled` on.
+    #[inline(always)]
     fn open_whole(
         &self,
         number: u64,
@@ -576,6 +577,7 @@ impl RecordKey {
 
     /// Opens the inner plaintext of the record `bytes[at..end]`, which has this header, into the bytes from `filled` on, and
     /// returns its length.
+    #[inline(always)]
     fn open_message(
         &self,
         number: u64,
@@ -607,6 +609,7 @@ impl RecordKey {
 
     /// Opens the record of this header and the bytes from `start` on, and returns the length of its inner plaintext, which is
     /// then at the front of `bytes`.
+    #[inline(always)]
     fn open_front(
         &self,
         number: u64,
