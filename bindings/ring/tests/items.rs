@@ -1,4 +1,4 @@
-//! Every public item, on standard vectors. `tools/rust-users` of the repository also compiles this file against ring, with
+//! Every public item, on standard vectors. `interop/rust-users` of the repository also compiles this file against ring, with
 //! one word of it changed: the name of the package in the next line.
 
 use deerlapse_ring as the_package;

@@ -2,8 +2,8 @@
  * appended to the file that DEERLAPSE_COUNTS names: the derivations; the messages, packets and records that were sealed; those
  * that were opened; the masks; and the calls that returned false.
  *
- * tools/rust-users compiles it into the assembly of the package `deerlapse`, whose own functions of these names are there called
- * uncounted_deerlapse_... */
+ * interop/rust-users compiles it into the assembly of the package `deerlapse`, whose own functions of these names are called
+ * uncounted_deerlapse_... there. */
 
 #include <fcntl.h>
 #include <stdatomic.h>
