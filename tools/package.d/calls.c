@@ -74,126 +74,106 @@ static bool give(given *g) {
            deerlapse_record_key_init(&g->records, secret, 32, nonce);
 }
 
+/* A call under the expanded key of `g`, of XAES-256-GCM or of AES-GCM: they have the same names but for one word. */
+#define UNDER(call, ...)                                                        \
+    (is_xaes ? deerlapse_xaes_##call(&g->xaes, long_nonce, __VA_ARGS__)         \
+             : deerlapse_key_##call(&g->key, nonce, __VA_ARGS__))
+
+/* Whether the calls under either key are refused. */
+static bool under_both(bool (*refuses)(given *g, bool is_xaes, size_t value), given *g, size_t value) {
+    return refuses(g, false, value) && refuses(g, true, value);
+}
+
+/* What these calls open, with the tag after it, and the tag. */
+static const uint8_t *sealed(const given *g, bool is_xaes) { return is_xaes ? g->xaes_in : g->in; }
+static const uint8_t *tag_of(const given *g, bool is_xaes) { return is_xaes ? g->xaes_tag : g->tag; }
+
 /* Messages and ciphertexts with a separate tag, of so many bytes. */
+static bool under_refuses_to_seal(given *g, bool is_xaes, size_t len) {
+    return !UNDER(seal, NULL, 0, g->out, len, g->tag) && !UNDER(open_separate_tag, NULL, 0, g->out, len, 0, g->tag);
+}
+
 static bool refuses_to_seal(given *g, size_t len) {
-    return !deerlapse_key_seal(&g->key, nonce, NULL, 0, g->out, len, g->tag) &&
-           !deerlapse_key_open_separate_tag(&g->key, nonce, NULL, 0, g->out, len, 0, g->tag) &&
-           !deerlapse_key_update(&g->key, &g->message, g->out, len) &&
+    return under_both(under_refuses_to_seal, g, len) && !deerlapse_key_update(&g->key, &g->message, g->out, len) &&
            !deerlapse_seal(secret, 32, nonce, NULL, 0, g->out, len, g->tag) &&
            !deerlapse_sealer_seal(&g->sealer, NULL, 0, g->out, len, g->tag) &&
            !deerlapse_quic_key_seal(&g->packets, 0, nonce, 12, g->out, len, g->tag) &&
            !deerlapse_chacha20(secret, nonce, UINT32_MAX, g->out, len);
 }
 
-static bool xaes_refuses_to_seal(given *g, size_t len) {
-    return !deerlapse_xaes_seal(&g->xaes, long_nonce, NULL, 0, g->out, len, g->tag) &&
-           !deerlapse_xaes_open_separate_tag(&g->xaes, long_nonce, NULL, 0, g->out, len, 0, g->tag);
-}
-
 /* The same from one buffer to another, or to itself. */
-static bool refuses_between(given *g, const uint8_t *in, size_t len) {
-    return !deerlapse_key_seal_to(&g->key, nonce, NULL, 0, in, len, g->out, g->tag) &&
-           !deerlapse_key_open_to(&g->key, nonce, NULL, 0, in, len, g->out, g->tag) &&
-           !deerlapse_key_seal_append_tag(&g->key, nonce, NULL, 0, in, len, g->out) &&
-           !deerlapse_xaes_seal_to(&g->xaes, long_nonce, NULL, 0, in, len, g->out, g->tag) &&
-           !deerlapse_xaes_open_to(&g->xaes, long_nonce, NULL, 0, in, len, g->out, g->tag) &&
-           !deerlapse_xaes_seal_append_tag(&g->xaes, long_nonce, NULL, 0, in, len, g->out);
+static bool refuses_from(given *g, bool is_xaes, const uint8_t *in, size_t len) {
+    return !UNDER(seal_to, NULL, 0, in, len, g->out, g->tag) && !UNDER(open_to, NULL, 0, in, len, g->out, g->tag) &&
+           !UNDER(seal_append_tag, NULL, 0, in, len, g->out);
 }
 
-static bool refuses_to_seal_between(given *g, size_t len) {
-    return refuses_between(g, g->in, len) && refuses_between(g, g->out, len) &&
-           !deerlapse_key_seal_to_sized(&g->key, nonce, nonce, 12, g->in, len, g->out, len, g->tag) &&
-           !deerlapse_key_open_to_sized(&g->key, nonce, nonce, 12, g->in, len, g->out, len, g->tag) &&
-           !deerlapse_key_seal_append_tag_sized(&g->key, nonce, nonce, 12, g->in, len, g->out, len + DEERLAPSE_TAG_LEN) &&
-           !deerlapse_xaes_seal_to_sized(&g->xaes, long_nonce, nonce, 12, g->in, len, g->out, len, g->tag) &&
-           !deerlapse_xaes_open_to_sized(&g->xaes, long_nonce, nonce, 12, g->in, len, g->out, len, g->tag) &&
-           !deerlapse_xaes_seal_append_tag_sized(&g->xaes, long_nonce, nonce, 12, g->in, len, g->out, len + DEERLAPSE_TAG_LEN);
+static bool under_refuses_to_seal_between(given *g, bool is_xaes, size_t len) {
+    return refuses_from(g, is_xaes, g->in, len) && refuses_from(g, is_xaes, g->out, len) &&
+           !UNDER(seal_to_sized, nonce, 12, g->in, len, g->out, len, g->tag) &&
+           !UNDER(open_to_sized, nonce, 12, g->in, len, g->out, len, g->tag) &&
+           !UNDER(seal_append_tag_sized, nonce, 12, g->in, len, g->out, len + DEERLAPSE_TAG_LEN);
 }
+
+static bool refuses_to_seal_between(given *g, size_t len) { return under_both(under_refuses_to_seal_between, g, len); }
 
 /* Ciphertexts with their tags, of so many bytes. */
+static bool under_refuses_to_open(given *g, bool is_xaes, size_t len) {
+    return !UNDER(open, NULL, 0, g->out, len, 0, &g->count) && !UNDER(open_appended_tag, NULL, 0, g->in, len, g->out) &&
+           !UNDER(open_appended_tag, NULL, 0, g->out, len, g->out) &&
+           !UNDER(open_appended_tag_sized, nonce, 12, g->in, len, g->out, len - DEERLAPSE_TAG_LEN);
+}
+
 static bool refuses_to_open(given *g, size_t len) {
-    return !deerlapse_key_open(&g->key, nonce, NULL, 0, g->out, len, 0, &g->count) &&
-           !deerlapse_key_open_appended_tag(&g->key, nonce, NULL, 0, g->in, len, g->out) &&
-           !deerlapse_key_open_appended_tag(&g->key, nonce, NULL, 0, g->out, len, g->out) &&
-           !deerlapse_key_open_appended_tag_sized(&g->key, nonce, nonce, 12, g->in, len, g->out, len - DEERLAPSE_TAG_LEN) &&
+    return under_both(under_refuses_to_open, g, len) &&
            !deerlapse_open(secret, 32, nonce, NULL, 0, g->out, len, 0, &g->count) &&
            !deerlapse_opener_open(&g->opener, NULL, 0, g->out, len, 0, &g->count) &&
            !deerlapse_opener_open_number(&g->opener, 1, NULL, 0, g->out, len, 0, &g->count) &&
            !deerlapse_quic_key_open(&g->packets, 0, nonce, 12, g->out, len, &g->count);
 }
 
-static bool xaes_refuses_to_open(given *g, size_t len) {
-    size_t out_len = len - DEERLAPSE_TAG_LEN;
-    return !deerlapse_xaes_open(&g->xaes, long_nonce, NULL, 0, g->out, len, 0, &g->count) &&
-           !deerlapse_xaes_open_appended_tag(&g->xaes, long_nonce, NULL, 0, g->in, len, g->out) &&
-           !deerlapse_xaes_open_appended_tag(&g->xaes, long_nonce, NULL, 0, g->out, len, g->out) &&
-           !deerlapse_xaes_open_appended_tag_sized(&g->xaes, long_nonce, nonce, 12, g->in, len, g->out, out_len);
-}
-
 /* Outputs of other lengths than that of the message, or of both with the tag. */
-static bool refuses_sizes(given *g, size_t len) {
-    return !deerlapse_key_seal_to_sized(&g->key, nonce, nonce, 12, g->in, 48, g->out, len, g->tag) &&
-           !deerlapse_key_open_to_sized(&g->key, nonce, nonce, 12, g->in, 48, g->out, len, g->tag) &&
-           !deerlapse_key_seal_append_tag_sized(&g->key, nonce, nonce, 12, g->in, 48, g->out, len + DEERLAPSE_TAG_LEN) &&
-           !deerlapse_key_open_appended_tag_sized(&g->key, nonce, nonce, 12, g->in, 64, g->out, len);
+static bool under_refuses_sizes(given *g, bool is_xaes, size_t len) {
+    const uint8_t *in = sealed(g, is_xaes);
+    return !UNDER(seal_to_sized, nonce, 12, in, 48, g->out, len, g->tag) &&
+           !UNDER(open_to_sized, nonce, 12, in, 48, g->out, len, tag_of(g, is_xaes)) &&
+           !UNDER(seal_append_tag_sized, nonce, 12, in, 48, g->out, len + DEERLAPSE_TAG_LEN) &&
+           !UNDER(open_appended_tag_sized, nonce, 12, in, 64, g->out, len);
 }
 
-static bool xaes_refuses_sizes(given *g, size_t len) {
-    size_t all = len + DEERLAPSE_TAG_LEN;
-    return !deerlapse_xaes_seal_to_sized(&g->xaes, long_nonce, nonce, 12, g->xaes_in, 48, g->out, len, g->tag) &&
-           !deerlapse_xaes_open_to_sized(&g->xaes, long_nonce, nonce, 12, g->xaes_in, 48, g->out, len, g->xaes_tag) &&
-           !deerlapse_xaes_seal_append_tag_sized(&g->xaes, long_nonce, nonce, 12, g->xaes_in, 48, g->out, all) &&
-           !deerlapse_xaes_open_appended_tag_sized(&g->xaes, long_nonce, nonce, 12, g->xaes_in, 64, g->out, len);
-}
+static bool refuses_sizes(given *g, size_t len) { return under_both(under_refuses_sizes, g, len); }
 
 /* Offsets in 64 bytes, of which the last 16 are a tag, or in 48. */
+static bool under_refuses_starts(given *g, bool is_xaes, size_t start) {
+    return !UNDER(open, NULL, 0, g->out, 64, start, &g->count) &&
+           !UNDER(open_separate_tag, NULL, 0, g->out, 48, start, g->tag);
+}
+
 static bool refuses_starts(given *g, size_t start) {
-    return !deerlapse_key_open(&g->key, nonce, NULL, 0, g->out, 64, start, &g->count) &&
-           !deerlapse_key_open_separate_tag(&g->key, nonce, NULL, 0, g->out, 48, start, g->tag) &&
+    return under_both(under_refuses_starts, g, start) &&
            !deerlapse_open(secret, 32, nonce, NULL, 0, g->out, 64, start, &g->count) &&
            !deerlapse_opener_open(&g->opener, NULL, 0, g->out, 64, start, &g->count) &&
-           !deerlapse_opener_open_number(&g->opener, 1, NULL, 0, g->out, 64, start, &g->count) &&
-           !deerlapse_xaes_open(&g->xaes, long_nonce, NULL, 0, g->out, 64, start, &g->count) &&
-           !deerlapse_xaes_open_separate_tag(&g->xaes, long_nonce, NULL, 0, g->out, 48, start, g->tag);
+           !deerlapse_opener_open_number(&g->opener, 1, NULL, 0, g->out, 64, start, &g->count);
 }
 
 /* AADs, and headers of packets. */
-static bool refuses_to_seal_aads(given *g, size_t len) {
-    return !deerlapse_key_seal(&g->key, nonce, g->in, len, g->out, 48, g->tag) &&
-           !deerlapse_key_seal_to(&g->key, nonce, g->in, len, g->in, 48, g->out, g->tag) &&
-           !deerlapse_key_seal_append_tag(&g->key, nonce, g->in, len, g->in, 48, g->out) &&
-           !deerlapse_key_seal_to_sized(&g->key, nonce, g->in, len, g->in, 48, g->out, 48, g->tag) &&
-           !deerlapse_key_seal_append_tag_sized(&g->key, nonce, g->in, len, g->in, 48, g->out, 64) &&
-           !deerlapse_key_begin(&g->key, nonce, g->in, len, &g->message) &&
+static bool under_refuses_aads(given *g, bool is_xaes, size_t len) {
+    const uint8_t *in = sealed(g, is_xaes), *tag = tag_of(g, is_xaes);
+    return !UNDER(seal, g->in, len, g->out, 48, g->tag) && !UNDER(seal_to, g->in, len, g->in, 48, g->out, g->tag) &&
+           !UNDER(seal_append_tag, g->in, len, g->in, 48, g->out) &&
+           !UNDER(seal_to_sized, g->in, len, g->in, 48, g->out, 48, g->tag) &&
+           !UNDER(seal_append_tag_sized, g->in, len, g->in, 48, g->out, 64) &&
+           !UNDER(open, g->in, len, g->out, 64, 0, &g->count) &&
+           !UNDER(open_separate_tag, g->in, len, g->out, 48, 0, tag) && !UNDER(open_to, g->in, len, in, 48, g->out, tag) &&
+           !UNDER(open_appended_tag, g->in, len, in, 64, g->out) &&
+           !UNDER(open_to_sized, g->in, len, in, 48, g->out, 48, tag) &&
+           !UNDER(open_appended_tag_sized, g->in, len, in, 64, g->out, 48);
+}
+
+static bool refuses_aads(given *g, size_t len) {
+    return under_both(under_refuses_aads, g, len) && !deerlapse_key_begin(&g->key, nonce, g->in, len, &g->message) &&
            !deerlapse_seal(secret, 32, nonce, g->in, len, g->out, 48, g->tag) &&
            !deerlapse_sealer_seal(&g->sealer, g->in, len, g->out, 48, g->tag) &&
-           !deerlapse_quic_key_seal(&g->packets, 0, g->in, len, g->out, 48, g->tag);
-}
-
-static bool xaes_refuses_to_seal_aads(given *g, size_t len) {
-    return !deerlapse_xaes_seal(&g->xaes, long_nonce, g->in, len, g->out, 48, g->tag) &&
-           !deerlapse_xaes_seal_to(&g->xaes, long_nonce, g->in, len, g->in, 48, g->out, g->tag) &&
-           !deerlapse_xaes_seal_append_tag(&g->xaes, long_nonce, g->in, len, g->in, 48, g->out) &&
-           !deerlapse_xaes_seal_to_sized(&g->xaes, long_nonce, g->in, len, g->in, 48, g->out, 48, g->tag) &&
-           !deerlapse_xaes_seal_append_tag_sized(&g->xaes, long_nonce, g->in, len, g->in, 48, g->out, 64);
-}
-
-static bool xaes_refuses_to_open_aads(given *g, size_t len) {
-    return !deerlapse_xaes_open(&g->xaes, long_nonce, g->in, len, g->out, 64, 0, &g->count) &&
-           !deerlapse_xaes_open_separate_tag(&g->xaes, long_nonce, g->in, len, g->out, 48, 0, g->xaes_tag) &&
-           !deerlapse_xaes_open_to(&g->xaes, long_nonce, g->in, len, g->xaes_in, 48, g->out, g->xaes_tag) &&
-           !deerlapse_xaes_open_appended_tag(&g->xaes, long_nonce, g->in, len, g->xaes_in, 64, g->out) &&
-           !deerlapse_xaes_open_to_sized(&g->xaes, long_nonce, g->in, len, g->xaes_in, 48, g->out, 48, g->xaes_tag) &&
-           !deerlapse_xaes_open_appended_tag_sized(&g->xaes, long_nonce, g->in, len, g->xaes_in, 64, g->out, 48);
-}
-
-static bool refuses_to_open_aads(given *g, size_t len) {
-    return !deerlapse_key_open(&g->key, nonce, g->in, len, g->out, 64, 0, &g->count) &&
-           !deerlapse_key_open_separate_tag(&g->key, nonce, g->in, len, g->out, 48, 0, g->tag) &&
-           !deerlapse_key_open_to(&g->key, nonce, g->in, len, g->in, 48, g->out, g->tag) &&
-           !deerlapse_key_open_appended_tag(&g->key, nonce, g->in, len, g->in, 64, g->out) &&
-           !deerlapse_key_open_to_sized(&g->key, nonce, g->in, len, g->in, 48, g->out, 48, g->tag) &&
-           !deerlapse_key_open_appended_tag_sized(&g->key, nonce, g->in, len, g->in, 64, g->out, 48) &&
+           !deerlapse_quic_key_seal(&g->packets, 0, g->in, len, g->out, 48, g->tag) &&
            !deerlapse_open(secret, 32, nonce, g->in, len, g->out, 64, 0, &g->count) &&
            !deerlapse_opener_open(&g->opener, g->in, len, g->out, 64, 0, &g->count) &&
            !deerlapse_opener_open_number(&g->opener, 1, g->in, len, g->out, 64, 0, &g->count) &&
@@ -312,17 +292,13 @@ static bool refuses_long(void) {
     } limits[] = {
         {refuses_to_seal, 0xfffffffe1},  {refuses_to_seal_between, 0xfffffffe1},
         {refuses_to_open, 0xffffffff1},  {refuses_sizes, 49},
-        {refuses_starts, 49},            {refuses_to_seal_aads, (size_t)1 << 61},
-        {refuses_keys, 33},              {refuses_to_open_aads, (size_t)1 << 61},
-        {refuses_secrets, 49},           {refuses_outputs, 255 * DEERLAPSE_SHA256_LEN + 1},
-        {refuses_labels, 250},           {refuses_contexts, 256},
-        {refuses_ids, 21},               {refuses_to_seal_records, (1 << 14) + 18},
-        {refuses_contents, 48},          {refuses_to_open_records, (1 << 14) + 257},
-        {refuses_numbers, 3},            {refuses_packet_numbers, (size_t)1 << 62},
-        {xaes_refuses_sizes, 49},        {xaes_refuses_to_seal, 0xfffffffe1},
-        {xaes_refuses_to_open, 0xffffffff1},
-        {xaes_refuses_to_seal_aads, (size_t)1 << 61},
-        {xaes_refuses_to_open_aads, (size_t)1 << 61},
+        {refuses_starts, 49},            {refuses_aads, (size_t)1 << 61},
+        {refuses_keys, 33},              {refuses_secrets, 49},
+        {refuses_labels, 250},           {refuses_outputs, 255 * DEERLAPSE_SHA256_LEN + 1},
+        {refuses_ids, 21},               {refuses_contexts, 256},
+        {refuses_contents, 48},          {refuses_to_seal_records, (1 << 14) + 18},
+        {refuses_numbers, 3},            {refuses_to_open_records, (1 << 14) + 257},
+        {refuses_packet_numbers, (size_t)1 << 62},
     };
     given g, before;
     if (!give(&before)) return false;
