@@ -3,7 +3,8 @@
  * own, and what must come before it in another one, since the dynamic linker may bind memcpy, memmove and memset at their
  * first use, on the stack of the call. So this file calls none. */
 #define _DEFAULT_SOURCE
-#include "calls.h"
+#define MAX_LEN 5000
+#include "../targets.d/calls.h"
 #include <pthread.h>
 #include <stdio.h>
 #include <stdlib.h>
@@ -40,7 +41,7 @@ static bool make(const named *it) {
            pthread_create(&thread, &attr, run, (void *)it) == 0 && pthread_join(thread, NULL) == 0 && shared->is_true;
 }
 
-static bool prepare(const named *it) { return !it->before || it->before(); }
+static bool prepare(const named *it) { return it->before(); }
 
 /* Whether it returns true, in a process of its own. */
 static bool in_a_process(bool (*is)(const named *), const named *it) {
@@ -72,6 +73,7 @@ int main(void) {
     shared = mmap(NULL, sizeof *shared, PROT_READ | PROT_WRITE, MAP_SHARED | MAP_ANONYMOUS, -1, 0);
     if (shared == MAP_FAILED) return 2;
     at = &shared->arguments;
+    at->aad_len = 40;
     for (int i = 0; i < CALLS; i++) printf("%s %ld\n", calls[i].name, most_of(&calls[i]));
     printf("DEERLAPSE_MAX_STACK %d\n", DEERLAPSE_MAX_STACK);
     return 0;

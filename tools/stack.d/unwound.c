@@ -1,7 +1,8 @@
 /* Whether the caller of each call can be found from within it, at every instruction: by the tables that a debugger, a profiler and
  * an exception use. On x86-64 the processor stops after each instruction; on ARM64 a timer stops it at some. */
 #define _GNU_SOURCE
-#include "calls.h"
+#define MAX_LEN 300
+#include "../targets.d/calls.h"
 #include <signal.h>
 #include <stdio.h>
 #include <stdlib.h>
@@ -132,7 +133,7 @@ __attribute__((noinline)) static bool make(const named *it) {
 static bool stops_in(const named *it) {
     unsigned long before = places;
     for (int i = 0; i < 100000 && places - before < ENOUGH; i++) {
-        if ((it->before && !it->before()) || !make(it)) return false;
+        if (!it->before() || !make(it)) return false;
     }
     return true;
 }
@@ -140,7 +141,8 @@ static bool stops_in(const named *it) {
 int main(void) {
     static arguments given;
     at = &given;
-    at->len = 300;
+    at->len = MAX_LEN;
+    at->aad_len = 40;
     if (!is_ready() || !is_started()) return 2;
     for (int i = 0; i < CALLS; i++) {
         for (at->key_len = 16; at->key_len <= 32; at->key_len += 16) {

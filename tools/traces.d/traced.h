@@ -2,33 +2,16 @@
 #ifndef TRACED_H
 #define TRACED_H
 
-#include <stdbool.h>
-#include <stddef.h>
-#include <stdint.h>
+#include "../targets.d/arguments.h"
 #include <stdio.h>
+#include <stdlib.h>
 #include <string.h>
 
-#ifndef LONGEST
-#define LONGEST 16384
-#endif
-
-enum { SEEDS = 12, MAX_LEN = LONGEST, ROOM = MAX_LEN + 64, TAG = 16, NONCE = 12, XAES_NONCE = 24, AAD = 20 };
-
-/* The secrets of a call, other ones for each seed. `other` is room for an output, or for a sealed message. */
-static uint8_t key_bytes[32], header_key[32], nonce[XAES_NONCE], aad[ROOM], message[ROOM], sample[16], other[ROOM], tag[TAG];
-static uint8_t secret[48]; /* of 32 bytes with a key of 16, and of 48 with one of 32 */
+enum { SEEDS = 12 };
 static unsigned seed;
 
-/* What a call is made for: a key of 16 bytes or of 32, and the length of a message, or 0 without lengths. */
-static size_t key_len, len;
-
-/* A call, and what must come before it; both return what they expect. */
-typedef struct {
-    const char *name;
-    bool (*call)(void);
-    bool (*before)(void);
-    bool has_lens;
-} traced_call;
+/* Before a call that needs nothing. */
+static inline bool nothing(void) { return true; }
 
 /* Each length up to a block's, and both sides of the limits of a batch, of four, eight or sixteen blocks, of a message whose
  * tag is in its batch, of a chunk of 192 blocks, and of four blocks of ChaCha20. */
@@ -52,39 +35,58 @@ static void fill(uint64_t *state, uint8_t *bytes, size_t count) {
 
 static void make_secrets(void) {
     uint64_t state = 88172645463325252u ^ seed * 2654435761u;
-    fill(&state, key_bytes, sizeof key_bytes);
-    fill(&state, header_key, sizeof header_key);
-    fill(&state, nonce, sizeof nonce);
-    fill(&state, sample, sizeof sample);
-    fill(&state, aad, len < AAD ? AAD : len);
-    fill(&state, message, len + 64);
-    fill(&state, secret, sizeof secret);
-    memset(other, 0, len + 64);
-    memset(tag, 0, sizeof tag);
+    fill(&state, at->key_bytes, sizeof at->key_bytes);
+    fill(&state, at->header_key, sizeof at->header_key);
+    fill(&state, at->nonce, sizeof at->nonce);
+    fill(&state, at->sample, sizeof at->sample);
+    fill(&state, at->aad, at->aad_len);
+    fill(&state, at->message, at->len + 64);
+    fill(&state, at->secret, sizeof at->secret);
+    memset(at->other, 0, at->len + 64);
+    memset(at->tag, 0, sizeof at->tag);
 }
 
-/* Whether each call returned what it must; prints the call, the key's length and the message's, a line for each trace. */
-static bool trace(const traced_call *calls, size_t n) {
-    for (const traced_call *it = calls; it < calls + n; it++) {
-        for (key_len = 16; key_len <= 32; key_len += 16) {
+/* A tag that is wrong in one bit, or in every one: which, by the seed. */
+static void spoil(uint8_t *tag) {
+    if (seed == 0) memset(tag, tag[0] ^ 0xff, TAG);
+    else tag[seed % TAG] ^= (uint8_t)(1 << seed % 8);
+}
+
+/* Makes a call with each seed, with a false tag in the form `,false`, and prints its name and form, the length of the key and the
+ * one that differs, a line for each trace. */
+static void trace_seeds(const named *it, size_t differing, const char *form) {
+    bool is_false = strcmp(form, ",false") == 0;
+    for (seed = 0; seed < SEEDS; seed++) {
+        make_secrets();
+        bool is = it->before();
+        if (is_false) spoil(it->tag());
+        traced_from();
+        bool answer = it->call();
+        traced_to();
+        if (!is || answer == is_false) {
+            fprintf(stderr, "failed: %s%s, key of %zu bytes, %zu bytes\n", it->name, form, at->key_len, differing);
+            exit(1);
+        }
+        printf("%s%s %zu %zu\n", it->name, form, at->key_len, differing);
+    }
+}
+
+/* The calls of a table, with a message of each length; those that take an AAD, with one of each length too, or if they open a
+ * message, with bytes before it. */
+static void trace(const named *calls, size_t n) {
+    static arguments given;
+    at = &given;
+    for (const named *it = calls; it < calls + n; it++) {
+        for (at->key_len = 16; at->key_len <= 32; at->key_len += 16) {
             for (size_t i = 0; i < (it->has_lens ? sizeof lens / sizeof lens[0] : 1); i++) {
-                len = lens[i];
-                for (seed = 0; seed < SEEDS; seed++) {
-                    make_secrets();
-                    bool is = !it->before || it->before();
-                    traced_from();
-                    bool right = it->call();
-                    traced_to();
-                    if (!is || !right) {
-                        fprintf(stderr, "failed: %s, key of %zu bytes, %zu bytes\n", it->name, key_len, len);
-                        return false;
-                    }
-                    printf("%s %zu %zu\n", it->name, key_len, len);
-                }
+                at->len = lens[i], at->aad_len = 20, at->start = 0;
+                trace_seeds(it, at->len, "");
+                if (it->tag) trace_seeds(it, at->len, ",false");
+                if (it->has_aad && it->opens) at->start = 3, trace_seeds(it, at->len, ",start");
+                if (it->has_aad && !it->opens) at->len = 40, at->aad_len = lens[i], trace_seeds(it, lens[i], ",AAD");
             }
         }
     }
-    return true;
 }
 
 #endif
