@@ -1,8 +1,8 @@
 #!/usr/bin/env python3
-"""The ports of 127.0.0.1, for the tools of interop:
+"""The ports of 127.0.0.1, for the tools that run servers:
 
-  interop/shared/ports.py free                 prints one that nobody listens to
-  interop/shared/ports.py wait PROTOCOL PORT   waits until a server listens, for a minute at most; the protocol is tcp or udp
+  tools/targets.d/ports.py free                 prints one that nobody listens to
+  tools/targets.d/ports.py wait PROTOCOL PORT   waits until a server listens, for a minute at most; the protocol is tcp or udp
 """
 
 import pathlib
