@@ -2,6 +2,7 @@
  * an exception use. On x86-64 the processor stops after each instruction; on ARM64 a timer stops it at some. */
 #define _GNU_SOURCE
 #define MAX_LEN 300
+#define ONE_STATE
 #include "../targets.d/calls.h"
 #include <signal.h>
 #include <stdio.h>

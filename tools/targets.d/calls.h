@@ -28,6 +28,7 @@ static uint8_t *after_inner(void) { return at->message + inner_len(); }
 #include "calls.def"
 #undef CALL
 
+#ifndef ONE_STATE
 /* Pieces of 0, 1, 2 bytes and so on. Nothing is written after the end. */
 static bool seal_in_pieces(void) {
     for (size_t done = 0, piece = 0; done < at->len; done += piece++) {
@@ -36,6 +37,7 @@ static bool seal_in_pieces(void) {
     }
     return call_key_finish() && !call_key_finish();
 }
+#endif
 
 /* Whether what a reader is told of an authentic record is right. */
 static bool is_told(void) {
