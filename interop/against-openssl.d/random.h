@@ -36,7 +36,7 @@ static uint64_t xorshift(void) {
 }
 
 #ifdef FUZZED
-#include "../fuzz.d/input.h"
+#include "../../tools/fuzz.d/input.h"
 #else
 static uint64_t next_random(void) { return xorshift(); }
 

@@ -6,7 +6,7 @@
 #define MAX_AAD LONGEST
 #define MAX_START 1
 #define main driver_main
-#include "../against-openssl.d/driver.c"
+#include "../../interop/against-openssl.d/driver.c"
 #undef main
 #include <errno.h>
 #include <spawn.h>

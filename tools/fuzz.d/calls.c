@@ -1,11 +1,11 @@
 /* Calls that seal and open one message, as the input draws them: lengths, places, ways, and what is changed. Each check is one
- * of tools/against-openssl.d/driver.c, whose results are OpenSSL's. Several may follow one another. */
+ * of interop/against-openssl.d/driver.c, whose results are OpenSSL's. Several may follow one another. */
 #define FUZZED
 #define MAX_MESSAGE 9000
 #define MAX_AAD 600
 #define MAX_START 9000
 #define main driver_main
-#include "../against-openssl.d/driver.c"
+#include "../../interop/against-openssl.d/driver.c"
 #undef main
 
 void fuzz_one(const uint8_t *bytes, size_t len);

@@ -1,4 +1,4 @@
-/* For driver.c and secrets.c of tools/against-openssl in a target of tools/fuzz: what they draw is read from the input, and a
+/* For driver.c and secrets.c of interop/against-openssl in a target of tools/fuzz: what they draw is read from the input, and a
  * buffer that they guard begins right after a page without access or ends right before one. */
 #include <sys/mman.h>
 

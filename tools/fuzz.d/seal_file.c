@@ -6,7 +6,7 @@
  * how many zeros the file ends with, and four more the range. The rest is the file. FUZZ_FOLDER names a folder for files. */
 #define FUZZED
 #define main driver_main
-#include "../against-openssl.d/driver.c"
+#include "../../interop/against-openssl.d/driver.c"
 #undef main
 #include <dirent.h>
 #include <fcntl.h>

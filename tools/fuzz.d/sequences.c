@@ -3,7 +3,7 @@
  * OpenSSL doesn't open is refused, and a call that is refused changes nothing. */
 #define FUZZED
 #define main secrets_main
-#include "../against-openssl.d/secrets.c"
+#include "../../interop/against-openssl.d/secrets.c"
 #undef main
 
 #define MOST 2000
