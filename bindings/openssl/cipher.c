@@ -3,7 +3,7 @@
  *
  * A message is sealed in one update or in several. It is opened in one, with the tag set before, or, if the configuration
  * has `late-tag = yes`, by `final`, in the memory to which the updates have copied the ciphertext: no byte of plaintext is
- * written before the tag is verified. Nonces have 12 bytes, and tags 16. docs/OPENSSL.md lists what is refused.
+ * written before the tag is verified. Nonces have 12 bytes, and tags 16. docs/guide/OPENSSL.md lists what is refused.
  *
  * A function returns 1, or 0 for a refusal, whose reason is then in OpenSSL's error queue. For a false tag there is none, as
  * with OpenSSL's own ciphers: libssl goes on after some records that it can't open, and an error that was left in the queue

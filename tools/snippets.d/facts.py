@@ -104,7 +104,7 @@ KEYS = r"making an AES(-GCM)? key, wide"
 NO_AES_NI = "OpenSSL, no AES-NI"
 
 CONTRIBUTING, SECURITY = "CONTRIBUTING.md", "SECURITY.md"
-BELIEVE, BENCHMARKS, C = "docs/BELIEVE.md", "docs/BENCHMARKS.md", "docs/C.md"
+BELIEVE, BENCHMARKS, C = "docs/BELIEVE.md", "docs/BENCHMARKS.md", "docs/guide/C.md"
 SEALED_FILE, RECORDS = "crates/sealed_file/SEALED_FILE.md", "crates/records/RECORDS.md"
 
 # The facts by their names: the source of each, and the documents of which each must mark it. One without documents must be marked
@@ -146,7 +146,7 @@ FACTS = {
     "max_packets": (lambda: constant("quic_packets", "CONFIDENTIALITY_LIMIT"), SECURITY),
     "max_failed_packets": (lambda: constant("quic_packets", "INTEGRITY_LIMIT"), SECURITY),
     # How many times as fast as a peer the wide form is, on x86-64-v2 or, with _v3, on x86-64-v3.
-    "speed_of_wide": (lambda: ratio("sealing, 16 KiB, wide", "Libraries"), "docs/RATTLE.md"),
+    "speed_of_wide": (lambda: ratio("sealing, 16 KiB, wide", "Libraries"), "docs/guide/RATTLE.md"),
     "speed_to_bearssl": (lambda: least(MESSAGES, "BearSSL, clang"), BENCHMARKS),
     "speed_to_bearssl_v3": (lambda: least(MESSAGES_V3, "BearSSL, clang"), BENCHMARKS),
     "speed_to_no_aes_ni": (lambda: least(MESSAGES, NO_AES_NI), BENCHMARKS),

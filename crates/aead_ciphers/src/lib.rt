@@ -1,7 +1,7 @@
 //! AES-GCM (SP 800-38D) and QUIC header protection (RFC 9001 section 5.4) under ring's names, and the program
 //! `aeadrun`.
 //!
-//! Read `aead` first, which is the interface for callers, or `docs/RATTLE.md`. `aes_gcm` and `gcm` are the layers below it.
+//! Read `aead` first, which is the interface for callers, or `docs/guide/RATTLE.md`. `aes_gcm` and `gcm` are the layers below it.
 #![tactic(auto)]
 
 pub mod aead;

@@ -1,6 +1,6 @@
 //! The primitives below AES-GCM and QUIC header protection: bit-sliced AES, ChaCha20, the buffers that
 //! both work on, and the plain values that calls take and return. Read `values` and `overlapping`
-//! first; `docs/RATTLE.md` has examples.
+//! first; `docs/guide/RATTLE.md` has examples.
 #![tactic(auto)]
 
 pub mod aes;

@@ -1,4 +1,4 @@
-//! Example callers, which `docs/RATTLE.md` quotes. The contract of each is proved from the contracts of the library alone.
+//! Example callers, which `docs/guide/RATTLE.md` quotes. The contract of each is proved from the contracts of the library alone.
 
 pub mod connection;
 pub mod messages;
