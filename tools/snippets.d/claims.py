@@ -12,6 +12,8 @@ CLAIMING = (
     ("crates/aead_ciphers_base/README.md", "aead_ciphers_base", "What is proved"),
     ("crates/aead_ciphers/README.md", "aead_ciphers", "What is proved"),
     ("crates/aead_ciphers_wide/README.md", "aead_ciphers_wide", "What is proved"),
+    ("crates/sentence/README.md", "sentence", "What is proved"),
+    ("crates/xaes/README.md", "xaes", "What is proved"),
 )
 CITATION = re.compile(r"\((`[\w:]+`(?:(?:: |, |; )`[\w:]+`)*)\)")
 OWNER = re.compile(r"(?:pub(?:\([^)]*\))? )?(?:struct|enum|trait|impl\b(?:<.*?>)?(?: .* for)?) (?:\w+::)*(\w+)")
