@@ -14,6 +14,8 @@ CLAIMING = (
     ("crates/aead_ciphers_wide/README.md", "aead_ciphers_wide", "What is proved"),
     ("crates/sentence/README.md", "sentence", "What is proved"),
     ("crates/xaes/README.md", "xaes", "What is proved"),
+    ("crates/key_derivation/README.md", "key_derivation", "What is proved"),
+    ("crates/tls_messages/README.md", "tls_messages", "What is proved"),
     ("crates/seal_file/README.md", "seal_file", "What is proved"),
 )
 CITATION = re.compile(r"\((`[\w:]+`(?:(?:: |, |; )`[\w:]+`)*)\)")
