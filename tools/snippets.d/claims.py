@@ -16,6 +16,7 @@ CLAIMING = (
     ("crates/xaes/README.md", "xaes", "What is proved"),
     ("crates/key_derivation/README.md", "key_derivation", "What is proved"),
     ("crates/tls_messages/README.md", "tls_messages", "What is proved"),
+    ("crates/records/README.md", "records", "What is proved"),
     ("crates/sealed_file/README.md", "sealed_file", "What is proved"),
     ("crates/seal_file/README.md", "seal_file", "What is proved"),
 )
