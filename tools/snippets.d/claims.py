@@ -15,6 +15,7 @@ CLAIMING = (
     ("crates/sentence/README.md", "sentence", "What is proved"),
     ("crates/xaes/README.md", "xaes", "What is proved"),
     ("crates/key_derivation/README.md", "key_derivation", "What is proved"),
+    ("crates/quic_packets/README.md", "quic_packets", "What is proved"),
     ("crates/tls_messages/README.md", "tls_messages", "What is proved"),
     ("crates/records/README.md", "records", "What is proved"),
     ("crates/sealed_file/README.md", "sealed_file", "What is proved"),
