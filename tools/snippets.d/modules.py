@@ -1,19 +1,34 @@
-"""The map of docs/DESIGN.md: the sources of each crate, what the first comment of each says, and what it defines for others."""
+"""The map of docs/DESIGN.md: the sources of each crate, what the first comment of each says, and the names that it defines."""
 
 import re
+import typing
 
 from repository import TOP, Fault, line_of, read
 
 DESIGN = "docs/DESIGN.md"
-MAP = re.compile(r"(?<=<!-- begin: map -->\n).*?(?=<!-- end: map -->)", re.DOTALL)
+MAP = re.compile(r"<!-- begin: map (\w+) -->\n(.*?)<!-- end: map -->", re.DOTALL)
 COMMENT = re.compile(r"(?://!.*\n)+")
 PARAGRAPH_END = re.compile(r"\n//!\s*\n")
 # A sentence ends with a period that isn't that of an initial.
 SENTENCE = re.compile(r".*?(?<!\b[A-Z])\.(?= |$)")
-DEFINED = re.compile(r"^pub(?:\([^)]*\))? (?:const |extern \"C\" )*(?:struct|enum|union|trait|type|fn) (\w+)", re.MULTILINE)
+VISIBLE = r"(?P<visible>pub(?:\([^)]*\))? )?"
+TYPE = re.compile(rf"{VISIBLE}(?:ghost )?(?P<kind>struct|enum|union|trait|type) (?P<name>\w+)")
+IMPL = re.compile(r"impl\b(?P<head>[^{]*)")
+FUNCTION = re.compile(rf"(?P<indent> *){VISIBLE}(?:const |extern \"C\" )*fn (?P<name>\w+)")
+GENERICS = re.compile(r"<[^<>]*>")
 CRATE = re.compile(r"^(\w+)[ \w]*:", re.MULTILINE)
 # The crates in the map that stand under the heading of tests in crates.txt.
 OF_TESTS = ("test_vectors", "aead_bench")
+
+
+class Owner(typing.NamedTuple):
+    """A type of a source or, without a name, the source itself, by what its functions are: those that it has for others, those
+    that it has for itself, and those of each trait."""
+
+    kind: str
+    public: list
+    private: list
+    of_traits: dict
 
 
 def crates_of_map():
@@ -32,37 +47,91 @@ def first_sentence(path, text):
     return sentence[0]
 
 
+def without_generics(head):
+    """The head of an `impl` without parameters of types, as `GcmKey for ExpandedKey`."""
+    shorter = GENERICS.sub("", head)
+    return shorter.strip() if shorter == head else without_generics(shorter)
+
+
+def owners_of(text):
+    """The types of a source in its order, by their names, and what it has without a type under the name ''."""
+    owners = {}
+    owner = trait = ""
+    for line in text.splitlines():
+        defined, impl, function = TYPE.match(line), IMPL.match(line), FUNCTION.match(line)
+        if defined:
+            owner, trait = defined["name"], ""
+            kind = "trait" if defined["kind"] == "trait" else ""
+            owners[owner] = Owner(kind, [], [], {})
+        elif impl:
+            trait, _, owner = without_generics(impl["head"]).rpartition(" for ")
+        elif function:
+            of_type = owner if function["indent"] else ""
+            found = owners.setdefault(of_type, Owner("", [], [], {}))
+            if trait and of_type:
+                names = found.of_traits.setdefault(trait.rpartition("::")[2], [])
+            else:
+                names = found.public if function["visible"] or found.kind == "trait" else found.private
+            if function["name"] not in names:
+                names.append(function["name"])
+    return owners
+
+
+def quoted(names):
+    return ", ".join(f"`{name}`" for name in names)
+
+
+def line_of_owner(name, owner):
+    """The line of a type with functions, or of the functions without a type."""
+    parts = [quoted(owner.public)] if owner.public else []
+    parts += [f"private {quoted(owner.private)}"] if owner.private else []
+    parts += [f"of `{trait}` {quoted(names)}" for trait, names in owner.of_traits.items()]
+    if not name:
+        return f"  - {'; '.join(parts)}"
+    return f"  - {f'{owner.kind} ' if owner.kind else ''}**`{name}`**: {'; '.join(parts)}"
+
+
 def entry(path, source):
-    """The line of a source."""
+    """The lines of a source: its path and first sentence, the types that have no functions, those that have, and functions."""
     text = path.read_text(encoding="utf-8")
-    link = f"[`{path.relative_to(source).with_suffix('')}`](../{path.relative_to(TOP)})"
-    names = ", ".join(f"`{name}`" for name in DEFINED.findall(text))
-    return f"{link}: {first_sentence(path.relative_to(TOP), text)} {names}".rstrip()
+    owners = owners_of(text)
+    free = owners.pop("", None)
+    plain = [name for name, it in owners.items() if not (it.public or it.private or it.of_traits)]
+    yield f"- [`{path.relative_to(source).with_suffix('')}`](../{path.relative_to(TOP)}): {first_sentence(path.relative_to(TOP), text)}"
+    if plain:
+        yield f"  - {', '.join(f'**`{name}`**' for name in plain)}"
+    yield from (line_of_owner(name, owner) for name, owner in owners.items() if name not in plain)
+    if free:
+        yield line_of_owner("", free)
 
 
 def map_of(crate):
-    """The lines of a crate: its root, and a list of its other sources but those of tests."""
+    """The lines of a crate: its root and its other sources, but those of tests."""
     source = TOP / "crates" / crate / "src"
-    paths = sorted(source.glob("**/*.rt"), key=lambda path: path.relative_to(source).with_suffix("").parts)
-    paths = [path for path in paths if "tests" not in str(path.relative_to(source))]
-    (root,) = (path for path in paths if path in (source / "lib.rt", source / "main.rt"))
-    others = [f"- {entry(path, source)}" for path in paths if path != root]
-    return ["", f"### `{crate}`", "", entry(root, source), *(["", *others] if others else [])]
+    paths = [path for path in source.glob("**/*.rt") if "tests" not in str(path.relative_to(source))]
+    roots = (source / "lib.rt", source / "main.rt")
+    paths.sort(key=lambda path: (path not in roots, path.relative_to(source).with_suffix("").parts))
+    return "".join(f"{line}\n" for line in ["", *(line for path in paths for line in entry(path, source)), ""])
 
 
 def compared(texts):
     """The number of sources in the map, and what is wrong with it."""
     text = texts.get(DESIGN, "")
-    said = MAP.search(text)
-    if said is None:
-        return 0, [Fault(f"{DESIGN}: no lines <!-- begin: map --> and <!-- end: map -->")]
-    try:
-        lines = [*(line for crate in crates_of_map() for line in map_of(crate)), ""]
-    except (OSError, ValueError) as error:
-        return 0, [Fault(f"{DESIGN}: the map: {error}")]
-    written, has = "".join(f"{line}\n" for line in lines), said[0].splitlines()
-    more = [f"is not of the sources: {line}" for line in has if line not in lines]
-    fewer = [f"lacks: {line}" for line in lines if line not in has]
-    wrong = [] if said[0] == written else more + fewer or ["is in another order"]
-    where = line_of(DESIGN, text, said.start())
-    return sum("](" in line for line in lines), [Fault(f"{where}: the map {it}", DESIGN, *said.span(), written) for it in wrong]
+    count, wrong, crates = 0, [], crates_of_map()
+    parts = list(MAP.finditer(text))
+    if [part[1] for part in parts] != crates:
+        wrong.append(Fault(f"{DESIGN}: the lines <!-- begin: map NAME --> must be those of {', '.join(crates)}"))
+    for part in parts:
+        try:
+            written = map_of(part[1])
+        except (OSError, ValueError) as error:
+            wrong.append(Fault(f"{DESIGN}: the map: {error}"))
+            continue
+        count += written.count("](")
+        has, lines = part[2].splitlines(), written.splitlines()
+        more = [f"is not of the sources: {line}" for line in has if line not in lines]
+        fewer = [f"lacks: {line}" for line in lines if line not in has]
+        where = f"{line_of(DESIGN, text, part.start())}: the map of {part[1]}"
+        messages = [] if part[2] == written else more + fewer or ["is in another order"]
+        wrong += [Fault(f"{where} {it}", DESIGN, *part.span(2), written) for it in messages]
+    return count, wrong
