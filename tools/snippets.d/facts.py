@@ -160,6 +160,7 @@ FACTS = {
     "greatest_time_of_key": (lambda: 1 / least(KEYS, NO_AES_NI), BENCHMARKS),
     "time_of_key_v3": (lambda: 1 / ratio("`deerlapse_key_init`, v3", NO_AES_NI), BENCHMARKS),
     "time_of_counter_mode": (lambda: 1 / ratio("counter mode, 16 KiB, wide", NO_AES_NI), BENCHMARKS),
+    "time_of_chacha20": (lambda: 1 / least("ChaCha20, 16 KiB", NO_AES_NI), BENCHMARKS),
     # How many times as fast as the library OpenSSL with all instructions seals.
     "openssl_at_1350": (lambda: round(1 / ratio("sealing, 1350 bytes, wide", "OpenSSL")), BENCHMARKS),
     "openssl_at_1350_v3": (lambda: round(1 / ratio("`deerlapse_key_seal`, 1350 bytes, v3", "OpenSSL")), BENCHMARKS),
