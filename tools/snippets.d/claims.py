@@ -19,6 +19,7 @@ CLAIMING = (
     ("crates/tls_messages/README.md", "tls_messages", "What is proved"),
     ("crates/records/README.md", "records", "What is proved"),
     ("crates/sealed_file/README.md", "sealed_file", "What is proved"),
+    ("crates/deerlapse/README.md", "deerlapse", "What is proved"),
     ("crates/seal_file/README.md", "seal_file", "What is proved"),
 )
 CITATION = re.compile(r"\((`[\w:]+`(?:(?:: |, |; )`[\w:]+`)*)\)")
