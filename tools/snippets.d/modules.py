@@ -129,11 +129,13 @@ def unknown_names(text):
     """What is wrong with the names in the sentences: each word of one is in a source, a definition or a proof, or names a file."""
     paths = [path for folder in ("src", "specs", "proofs") for path in TOP.glob(f"crates/*/{folder}/**/*.*t")]
     known = set(re.findall(r"\w+", " ".join(path.read_text(encoding="utf-8") for path in paths)))
-    known |= {part for path in paths for part in path.relative_to(TOP).with_suffix("").parts} | {path.name for path in TOP.iterdir()}
+    known |= {part for path in paths for part in path.relative_to(TOP).with_suffix("").parts}
+    known |= {path.name for path in TOP.iterdir()}
     inside = [part.span() for part in MAP.finditer(text)]
     for name in NAME.finditer(text):
         is_of_map = any(start <= name.start() < end for start, end in inside)
-        if not is_of_map and any(part not in known and not ANY.fullmatch(part) for part in re.split("::|/", name[1])):
+        parts = () if is_of_map else re.split("::|/", name[1])
+        if any(part not in known and not ANY.fullmatch(part) for part in parts):
             yield Fault(f"{line_of(DESIGN, text, name.start())}: no source has the name {name[1]}")
 
 
