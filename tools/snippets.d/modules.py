@@ -126,7 +126,7 @@ def map_of(crate):
 
 
 def unknown_names(text):
-    """What is wrong with the names in the sentences: each word of one is in a source, a definition or a proof, or names a file."""
+    """What is wrong with names in the sentences: each part of one is in a source, a definition or a proof, or names a file."""
     paths = [path for folder in ("src", "specs", "proofs") for path in TOP.glob(f"crates/*/{folder}/**/*.*t")]
     known = set(re.findall(r"\w+", " ".join(path.read_text(encoding="utf-8") for path in paths)))
     known |= {part for path in paths for part in path.relative_to(TOP).with_suffix("").parts}
