@@ -5,19 +5,20 @@
  *
  * The following holds for every call:
  *  - It returns true on success. It returns false on failure, and leaves every byte unchanged, except that
- *    deerlapse_key_init then zeroes the key. A call that cannot fail returns nothing, or the number that it computes.
+ *    deerlapse_key_init then fills the key with zeros. A call that cannot fail returns nothing, or the number that it
+ *    computes.
  *  - A pointer with a length points to that many bytes, and may be null if the length is 0: the name in the call is that
  *    of a wrapper, such as deerlapse_key_seal_nullable, at the end of deerlapse.h. No other pointer may be null. A
- *    parameter such as nonce[12] points to as many bytes.
- *  - The bytes that a call writes must not overlap any others that it is given. No call checks this. Bytes that it only
- *    reads may overlap. A tag may come right after its message: `tag` is then `in_out + in_out_len`.
+ *    parameter such as nonce[12] points to as many bytes as its brackets say.
+ *  - The bytes that a call writes must not overlap any other bytes that it is given. No call checks this. Bytes that it
+ *    only reads may overlap. A tag may come right after its message: `tag` is then `in_out + in_out_len`.
  *  - It allocates no memory, has no state and starts no thread. Threads may make calls at the same time, as long as no
  *    call writes bytes that another one is given.
  *  - It uses at most DEERLAPSE_MAX_STACK bytes of stack, whatever the lengths.
  *
  * The library is for Linux, FreeBSD and macOS, on ARM64 or on an x86-64 processor of the level DEERLAPSE_X86_64_LEVEL, and
  * for Windows on such an x86-64 processor. On Linux it ran on x86-64, and on ARM64 under QEMU; for Windows it ran under Wine;
- * for FreeBSD and macOS it was built, and not run. No call checks the processor: deerlapse_cpu_supported does.
+ * for FreeBSD and macOS it was built, and not run. Only deerlapse_cpu_supported checks the processor.
  */
 #ifndef DEERLAPSE_H
 #define DEERLAPSE_H
@@ -35,9 +36,9 @@
 #define DEERLAPSE_CALL __attribute__((nonnull))
 /* It also warns if the result is ignored. */
 #define DEERLAPSE_NODISCARD __attribute__((nonnull, warn_unused_result))
-/* The same, for a function of which only the parameters with these numbers must not be null. */
+/* It gives both warnings for a function of which only the parameters with these numbers must not be null. */
 #define DEERLAPSE_WRAPS(...) static inline __attribute__((nonnull(__VA_ARGS__), warn_unused_result))
-/* The same, for a function each of whose pointers may be null. */
+/* It only warns if the result is ignored, for a function each of whose pointers may be null. */
 #define DEERLAPSE_WRAPS_NULLABLE static inline __attribute__((warn_unused_result))
 #else
 #define DEERLAPSE_CALL
@@ -50,18 +51,18 @@
 #define DEERLAPSE_VERSION_MINOR 1
 #define DEERLAPSE_VERSION_PATCH 0
 
-/* The version in one number: 0x010203 for 1.2.3. */
+/* The version as one number: 0x010203 for 1.2.3. */
 #define DEERLAPSE_VERSION (DEERLAPSE_VERSION_MAJOR << 16 | DEERLAPSE_VERSION_MINOR << 8 | DEERLAPSE_VERSION_PATCH)
 
 /* The level of x86-64 processors that the library was built for: 2 for x86-64-v2, 3 for x86-64-v3. It is the level of the
  * installed library in an installed deerlapse.h, and 2 in any other: a program with deerlapse-x86_64-v3.s is compiled with
- * -DDEERLAPSE_X86_64_LEVEL=3. For Windows and macOS there is level 2 alone. On ARM64 every processor will do. */
+ * -DDEERLAPSE_X86_64_LEVEL=3. For Windows and macOS there is only level 2. On ARM64 every processor will do. */
 #ifndef DEERLAPSE_X86_64_LEVEL
 #define DEERLAPSE_X86_64_LEVEL 2
 #endif
 
-/* The most bytes of stack that a call uses, as measured by the repository's tools/stack on Linux. This includes the dynamic
- * linker's, which may bind memcpy, memmove and memset in the first call. */
+/* The most bytes of stack that a call uses, as measured by the repository's tools/stack on Linux. They include the bytes that
+ * the dynamic linker uses when it binds memcpy, memmove and memset in the first call. */
 #define DEERLAPSE_MAX_STACK 8192
 
 /* The lengths of arrays, in bytes. */
@@ -82,7 +83,7 @@
 extern "C" {
 #endif
 
-/* Returns the version of the library that the program was linked with. DEERLAPSE_VERSION is the one of deerlapse.h. */
+/* Returns the version of the library that the program was linked with. DEERLAPSE_VERSION is the version of deerlapse.h. */
 uint32_t deerlapse_version(void);
 
 /* A key that is expanded once, for many messages and many threads. deerlapse_key_init initializes it. It is in the caller's
@@ -134,8 +135,8 @@ DEERLAPSE_NODISCARD
 bool deerlapse_key_open(const deerlapse_key *key, const uint8_t nonce[DEERLAPSE_NONCE_LEN], const uint8_t *aad,
                         size_t aad_len, uint8_t *in_out, size_t in_out_len, size_t start, size_t *plaintext_len);
 
-/* The same for a ciphertext with a separate tag: the ciphertext from in_out + start on. On success the plaintext, of
- * in_out_len - start bytes, is at in_out, and the bytes after it are unchanged.
+/* Opens in place a ciphertext whose tag is passed separately. All bytes from in_out + start on are the ciphertext. On success
+ * the plaintext, of in_out_len - start bytes, is at in_out, and the bytes after it are unchanged.
  *
  *   tag   16 bytes, which are read
  *
@@ -146,8 +147,8 @@ bool deerlapse_key_open_separate_tag(const deerlapse_key *key, const uint8_t non
                                      const uint8_t *aad, size_t aad_len, uint8_t *in_out, size_t in_out_len,
                                      size_t start, const uint8_t tag[DEERLAPSE_TAG_LEN]);
 
-/* Do the same as deerlapse_key_seal and deerlapse_key_open_separate_tag, but from one buffer to another. `in` is unchanged.
- * No byte of `out` is written before the tag is verified.
+/* These calls do the same as deerlapse_key_seal and deerlapse_key_open_separate_tag, but from one buffer to another. `in` is
+ * unchanged. Opening writes no byte of `out` before the tag is verified.
  *
  *   in    in_len bytes: the message, or the ciphertext
  *   out   in_len bytes, which must not overlap `in`, unless it is the same pointer
@@ -162,14 +163,14 @@ bool deerlapse_key_open_to(const deerlapse_key *key, const uint8_t nonce[DEERLAP
                            size_t aad_len, const uint8_t *in, size_t in_len, uint8_t *out,
                            const uint8_t tag[DEERLAPSE_TAG_LEN]);
 
-/* Do the same as deerlapse_key_seal_to and deerlapse_key_open_to with the tag after the ciphertext: sealing writes both to
- * `out`, and opening reads both from `in`.
+/* These calls do the same as deerlapse_key_seal_to and deerlapse_key_open_to, with the tag after the ciphertext: sealing
+ * writes both to `out`, and opening reads both from `in`.
  *
  *   in    in_len bytes: the message, or the ciphertext and its tag
  *   out   in_len + 16 bytes for sealing, in_len - 16 bytes for opening, which must not overlap `in`, unless it is the same
  *         pointer
  *
- * Return false if those with a separate tag do. Opening also does if in_len is below 16. */
+ * Return false if the calls with a separate tag do. Opening also returns false if in_len is below 16. */
 DEERLAPSE_WRAPS(1, 2, 7)
 bool deerlapse_key_seal_append_tag(const deerlapse_key *key, const uint8_t nonce[DEERLAPSE_NONCE_LEN],
                                    const uint8_t *aad, size_t aad_len, const uint8_t *in, size_t in_len,
@@ -179,10 +180,11 @@ bool deerlapse_key_open_appended_tag(const deerlapse_key *key, const uint8_t non
                                      const uint8_t *aad, size_t aad_len, const uint8_t *in, size_t in_len,
                                      uint8_t *out);
 
-/* The four calls above are inline, and call these, or if `in` and `out` are the same pointer the calls in place. These take
- * the length of `out`. No pointer may be null. A program without deerlapse.h calls these.
+/* deerlapse_key_seal_to and the three calls after it are inline functions. They call the functions whose names end in _sized
+ * or, if `in` and `out` are the same pointer, the calls in place. The functions in _sized also take the length of `out`, and
+ * none of their pointers may be null. A program that doesn't include deerlapse.h calls them directly.
  *
- * Return false if the inline calls do, or if out_len is another length than that of their `out`. */
+ * Return false if the inline calls do, or if out_len is not the length that `out` has in the inline call. */
 DEERLAPSE_NODISCARD
 bool deerlapse_key_seal_to_sized(const deerlapse_key *key, const uint8_t nonce[DEERLAPSE_NONCE_LEN],
                                  const uint8_t *aad, size_t aad_len, const uint8_t *in, size_t in_len, uint8_t *out,
@@ -205,15 +207,15 @@ bool deerlapse_key_open_appended_tag_sized(const deerlapse_key *key, const uint8
  * zeros has not begun, and any other memory must only be passed to deerlapse_key_begin. Never copy it: pieces that follow the
  * copy would be encrypted with the same keystream. Only one thread may use it at a time.
  *
- * It contains keystream, which is secret, until deerlapse_key_finish overwrites it with zeros. Finish a message before its key
- * is wiped, also one that is given up, whose tag is discarded. No sealer counts such messages: seal them under a key of
- * their own, the nth under the nonce that deerlapse_nonce writes for n. No message is opened in pieces: its plaintext would
- * be used before it is verified. */
+ * It contains keystream, which is secret, until deerlapse_key_finish overwrites it with zeros. Finish every message before its
+ * key is wiped. A message that is given up is finished too, and its tag is discarded. No sealer counts such messages: seal
+ * them under a key that seals nothing else, the nth under the nonce that deerlapse_nonce writes for n. No call opens a message
+ * in pieces, since its plaintext would be used before it is verified. */
 typedef struct deerlapse_message {
     uint64_t words[22]; /* private: neither read nor write them */
 } deerlapse_message;
 
-/* Begins a message, of which no piece is sealed yet. The previous bytes of `message` are not read.
+/* Begins a message. The previous bytes of `message` are not read.
  *
  *   key, nonce, aad   as for deerlapse_key_seal
  *
@@ -222,18 +224,18 @@ DEERLAPSE_NODISCARD
 bool deerlapse_key_begin(const deerlapse_key *key, const uint8_t nonce[DEERLAPSE_NONCE_LEN], const uint8_t *aad,
                          size_t aad_len, deerlapse_message *message);
 
-/* Encrypts the next piece in place. However a message is cut, its ciphertext is that of deerlapse_key_seal.
+/* Encrypts the next piece in place. However a message is cut into pieces, its ciphertext is that of deerlapse_key_seal.
  *
- *   key      the key that the message began with, which no call checks
+ *   key      the key that the message began with. No call checks this
  *   in_out   in_out_len bytes: the piece, which its ciphertext replaces
  *
  * Returns false if the message has not begun, if it would be longer than 2^36 - 32 bytes, or if the key is zeros. */
 DEERLAPSE_NODISCARD
 bool deerlapse_key_update(const deerlapse_key *key, deerlapse_message *message, uint8_t *in_out, size_t in_out_len);
 
-/* Writes the tag that deerlapse_key_seal writes for all pieces in a row, and overwrites `message` with zeros.
+/* Writes the tag that deerlapse_key_seal writes for the whole message, and overwrites `message` with zeros.
  *
- *   key   the key that the message began with, which no call checks
+ *   key   the key that the message began with. No call checks this
  *   tag   16 bytes, which are written
  *
  * Returns false if the message has not begun, or if the key is zeros. */
@@ -245,8 +247,8 @@ bool deerlapse_key_finish(const deerlapse_key *key, deerlapse_message *message, 
 DEERLAPSE_CALL
 void deerlapse_key_wipe(deerlapse_key *key);
 
-/* Do the same as deerlapse_key_seal and deerlapse_key_open under a key of key_len bytes, 16 or 32, which is expanded for
- * this message only.
+/* These calls do the same as deerlapse_key_seal and deerlapse_key_open, under a key of key_len bytes, 16 or 32, which is
+ * expanded for this message only.
  *
  * Return false if key_len is neither 16 nor 32, or if the call under a deerlapse_key does. */
 DEERLAPSE_NODISCARD
@@ -260,24 +262,24 @@ bool deerlapse_open(const uint8_t *key, size_t key_len, const uint8_t nonce[DEER
 
 /* A key of XAES-256-GCM (c2sp.org/XAES-256-GCM), whose nonces have 24 bytes: enough to be drawn at random for each message.
  * Each message is sealed by AES-256-GCM under a key of its own, which is derived from the key and the first 12 bytes of the
- * nonce, and with the last 12 bytes as its nonce. The specification allows 2^80 messages under one key with random nonces. Of
- * random nonces of 12 bytes, 2^32 are allowed under a key of AES-GCM (SP 800-38D section 8.3).
+ * nonce. AES-256-GCM takes the last 12 bytes as its nonce. The specification allows 2^80 messages under one key with random
+ * nonces. With random nonces of 12 bytes, AES-GCM allows 2^32 messages under one key (SP 800-38D section 8.3).
  *
- * deerlapse_xaes_init expands it once, for many messages and many threads. As a deerlapse_key, it is in the caller's memory and
- * contains no pointer, every call under a key of zeros returns false, and any other memory must only be passed to
+ * deerlapse_xaes_init expands it once, for many messages and many threads. Like a deerlapse_key, it is in the caller's memory
+ * and contains no pointer, every call under a key of zeros returns false, and any other memory must only be passed to
  * deerlapse_xaes_init and deerlapse_xaes_wipe. The library draws no random bytes. A call leaves the derived key of its message
  * on the stack. */
 typedef struct deerlapse_xaes {
     uint64_t words[33]; /* private: neither read nor write them */
 } deerlapse_xaes;
 
-/* Expands a key. The previous bytes of `key` are not read. It cannot fail.
+/* Expands a key. The previous bytes of `key` are not read. The call cannot fail.
  *
  *   bytes   32 bytes, for example drawn at random */
 DEERLAPSE_CALL
 void deerlapse_xaes_init(deerlapse_xaes *key, const uint8_t bytes[DEERLAPSE_XAES_KEY_LEN]);
 
-/* Do the same as the calls whose names have `key` in the place of `xaes`, with XAES-256-GCM.
+/* These calls do the same with XAES-256-GCM as the calls whose names have `key` in the place of `xaes`.
  *
  *   key     initialized by deerlapse_xaes_init, or zeros
  *   nonce   24 bytes, never used twice under one key: random bytes for each message
@@ -310,9 +312,10 @@ bool deerlapse_xaes_open_appended_tag(const deerlapse_xaes *key, const uint8_t n
                                       const uint8_t *aad, size_t aad_len, const uint8_t *in, size_t in_len,
                                       uint8_t *out);
 
-/* The last four are inline, as those of a deerlapse_key are, and call these with the length of `out`.
+/* deerlapse_xaes_seal_to and the three calls after it are inline functions, like those for a deerlapse_key. They call the
+ * functions whose names end in _sized, with the length of `out`, or the calls in place.
  *
- * Return false if the inline calls do, or if out_len is another length than that of their `out`. */
+ * Return false if the inline calls do, or if out_len is not the length that `out` has in the inline call. */
 DEERLAPSE_NODISCARD
 bool deerlapse_xaes_seal_to_sized(const deerlapse_xaes *key, const uint8_t nonce[DEERLAPSE_XAES_NONCE_LEN],
                                   const uint8_t *aad, size_t aad_len, const uint8_t *in, size_t in_len, uint8_t *out,
@@ -361,14 +364,14 @@ DEERLAPSE_NODISCARD
 bool deerlapse_sealer_init(deerlapse_sealer *sealer, const uint8_t *key, size_t key_len,
                            const uint8_t iv[DEERLAPSE_NONCE_LEN], uint64_t first, uint64_t limit);
 
-/* Returns the number of the next message, for example to send it along, or 0 for a sealer of zeros. */
+/* Returns the number of the next message, for example to send it with the message, or 0 for a sealer of zeros. */
 DEERLAPSE_NODISCARD
 uint64_t deerlapse_sealer_next(const deerlapse_sealer *sealer);
 
 /* Does the same as deerlapse_key_seal under the nonce of the next number, and then counts the number up by one.
  *
- * Returns false if the next number is not below limit, if the sealer is zeros, or for lengths for which deerlapse_key_seal
- * does. The sealer is then unchanged. */
+ * Returns false if the next number is not below limit, if the sealer is zeros, or for lengths that deerlapse_key_seal
+ * refuses. The sealer is then unchanged. */
 DEERLAPSE_NODISCARD
 bool deerlapse_sealer_seal(deerlapse_sealer *sealer, const uint8_t *aad, size_t aad_len, uint8_t *in_out,
                            size_t in_out_len, uint8_t tag[DEERLAPSE_TAG_LEN]);
@@ -377,22 +380,24 @@ bool deerlapse_sealer_seal(deerlapse_sealer *sealer, const uint8_t *aad, size_t 
 DEERLAPSE_CALL
 void deerlapse_sealer_wipe(deerlapse_sealer *sealer);
 
-/* A key that opens what a sealer with the same key and IV sealed, in order or by number. Zeros, other memory and the room
- * for a later version are as for a sealer. A copy counts separately. Only one thread at a time may open in order.
- * Any number of threads may open by number, as long as none initializes it or opens in order at the same time. */
+/* A key that opens what a sealer with the same key and IV sealed, in order or by number. It is in the caller's memory, and
+ * deerlapse_opener_init initializes it. An opener of zeros opens nothing, and any other memory must only be passed to
+ * deerlapse_opener_init and deerlapse_opener_wipe. A copy counts separately. Only one thread at a time may open in order. Any
+ * number of threads may open by number, as long as no thread initializes the opener or opens in order at the same time. It has
+ * room for the fields of a later version. Nothing has to be freed. */
 typedef struct deerlapse_opener {
     uint64_t words[430]; /* private: neither read nor write them */
 } deerlapse_opener;
 
-/* Initializes an opener, as deerlapse_sealer_init does a sealer.
+/* Initializes an opener. Its previous bytes are not read. The parameters are those of deerlapse_sealer_init.
  *
  * Returns false if key_len is neither 16 nor 32, or if first is above limit. The opener is then unchanged. */
 DEERLAPSE_NODISCARD
 bool deerlapse_opener_init(deerlapse_opener *opener, const uint8_t *key, size_t key_len,
                            const uint8_t iv[DEERLAPSE_NONCE_LEN], uint64_t first, uint64_t limit);
 
-/* Returns the number of the message that is opened next in order, or 0 for an opener of zeros. To go on after a message that
- * was lost, open by number, or initialize an opener whose `first` is the number after it. */
+/* Returns the number of the message that is opened next in order, or 0 for an opener of zeros. After a message that was lost,
+ * open by number, or initialize an opener whose `first` is the number after it. */
 DEERLAPSE_NODISCARD
 uint64_t deerlapse_opener_next(const deerlapse_opener *opener);
 
@@ -404,9 +409,9 @@ DEERLAPSE_NODISCARD
 bool deerlapse_opener_open(deerlapse_opener *opener, const uint8_t *aad, size_t aad_len, uint8_t *in_out,
                            size_t in_out_len, size_t start, size_t *plaintext_len);
 
-/* The same under the nonce of a number that the caller knows, for example from a packet. It counts nothing, has no limit,
- * and only reads the opener. It opens a message any number of times: whether the number was opened before is the caller's
- * responsibility.
+/* Does the same as deerlapse_opener_open under the nonce of a number that the caller knows, for example from a packet. It
+ * counts nothing, has no limit, and only reads the opener. It opens a message any number of times: it is the caller's
+ * responsibility to know which numbers were opened before.
  *
  * Returns false if the opener is zeros, or if deerlapse_key_open does. */
 DEERLAPSE_NODISCARD
@@ -421,10 +426,11 @@ void deerlapse_opener_wipe(deerlapse_opener *opener);
 DEERLAPSE_CALL
 void deerlapse_nonce(const uint8_t iv[DEERLAPSE_NONCE_LEN], uint64_t number, uint8_t nonce[DEERLAPSE_NONCE_LEN]);
 
-/* HMAC, HKDF and HKDF-Expand-Label with SHA-256 or SHA-384. A length of 32 or 48 bytes names the hash function: that of what
- * a call writes or, for the calls that fill `out`, that of the secret. */
+/* HMAC, HKDF and HKDF-Expand-Label with SHA-256 or SHA-384. A length selects the hash function, 32 bytes SHA-256 and 48 bytes
+ * SHA-384: the length of what a call writes or, for the calls that fill `out`, the length of the secret. */
 
-/* Writes the code of a message (RFC 2104). To verify one, compare every byte of it, as a constant-time comparison does.
+/* Writes the authentication code of a message (RFC 2104). To verify a code, compare all of its bytes, in a time that doesn't
+ * depend on which of them are right.
  *
  *   key       key_len bytes
  *   message   message_len bytes
@@ -457,8 +463,8 @@ DEERLAPSE_NODISCARD
 bool deerlapse_hkdf_expand(const uint8_t *prk, size_t prk_len, const uint8_t *info, size_t info_len, uint8_t *out,
                            size_t out_len);
 
-/* HKDF-Expand-Label: fills `out` from a secret (RFC 8446 section 7.1). With the hash of the messages as the context, and
- * out_len as secret_len, it is Derive-Secret.
+/* HKDF-Expand-Label: fills `out` from a secret (RFC 8446 section 7.1). It is Derive-Secret if the context is the hash of the
+ * messages, and out_len is secret_len.
  *
  *   secret    secret_len bytes: 32 for SHA-256, 48 for SHA-384
  *   label     label_len bytes, 1 to 249: without "tls13 ", which the call puts before it
@@ -476,8 +482,8 @@ bool deerlapse_hkdf_expand_label(const uint8_t *secret, size_t secret_len, const
  * share it. Every call under a key of zeros returns false. Any other memory must only be passed to the calls that initialize
  * it and to deerlapse_quic_key_wipe.
  *
- * It counts nothing. No number may be sealed twice under one key, a packet that was opened before is opened again, and the
- * limits of RFC 9001 section 6.6 are the caller's responsibility. */
+ * It counts nothing, and it opens a packet again that was opened before. It is the caller's responsibility to seal no number
+ * twice under one key, to know which numbers were opened before, and to keep the limits of RFC 9001 section 6.6. */
 typedef struct deerlapse_quic_key {
     uint64_t words[401]; /* private: neither read nor write them */
 } deerlapse_quic_key;
@@ -492,7 +498,8 @@ DEERLAPSE_NODISCARD
 bool deerlapse_quic_key_init(deerlapse_quic_key *key, const uint8_t *bytes, size_t len,
                              const uint8_t iv[DEERLAPSE_NONCE_LEN]);
 
-/* Initializes the key and the IV of a secret (RFC 9001 section 5.1, RFC 9369 section 3.3.2). Its previous bytes are not read.
+/* Initializes a key with the key and the IV of a secret (RFC 9001 section 5.1, RFC 9369 section 3.3.2). Its previous bytes are
+ * not read.
  *
  *   version   DEERLAPSE_QUIC_V1 or DEERLAPSE_QUIC_V2
  *   secret    secret_len bytes: 32 for TLS_AES_128_GCM_SHA256, 48 for TLS_AES_256_GCM_SHA384
@@ -501,11 +508,12 @@ bool deerlapse_quic_key_init(deerlapse_quic_key *key, const uint8_t *bytes, size
 DEERLAPSE_NODISCARD
 bool deerlapse_quic_key_from_secret(deerlapse_quic_key *key, uint32_t version, const uint8_t *secret, size_t secret_len);
 
-/* Writes the secrets of the Initial packets that each end sends (RFC 9001 section 5.2, RFC 9369 section 3.3.1).
+/* Writes the secrets that protect the Initial packets of the client and of the server (RFC 9001 section 5.2, RFC 9369 section
+ * 3.3.1).
  *
  *   version   DEERLAPSE_QUIC_V1 or DEERLAPSE_QUIC_V2
- *   id        id_len bytes, at most 20: the Destination Connection ID of the client's first Initial packet, or after a Retry
- *             packet the one that it brings
+ *   id        id_len bytes, at most 20: the Destination Connection ID of the client's first Initial packet or, after a Retry
+ *             packet, the Source Connection ID of that packet
  *   client    32 bytes, which are written
  *   server    32 bytes, which are written
  *
@@ -530,7 +538,7 @@ bool deerlapse_quic_next_secret(uint32_t version, uint8_t *secret, size_t secret
  *   payload   payload_len bytes, which the ciphertext replaces
  *   tag       16 bytes, which are written. They may come right after the payload
  *
- * Returns false if the key is zeros, if the number is 2^62 or more, or for lengths for which deerlapse_key_seal does. */
+ * Returns false if the key is zeros, if the number is 2^62 or more, or for lengths that deerlapse_key_seal refuses. */
 DEERLAPSE_NODISCARD
 bool deerlapse_quic_key_seal(const deerlapse_quic_key *key, uint64_t number, const uint8_t *header, size_t header_len,
                              uint8_t *payload, size_t payload_len, uint8_t tag[DEERLAPSE_TAG_LEN]);
@@ -543,7 +551,7 @@ bool deerlapse_quic_key_seal(const deerlapse_quic_key *key, uint64_t number, con
  *   plaintext_len   written on success: payload_len - 16
  *
  * Returns false if the tag is wrong, if payload_len is below 16, if the key is zeros, if the number is 2^62 or more, or for
- * lengths for which deerlapse_key_seal does. */
+ * lengths that deerlapse_key_seal refuses. */
 DEERLAPSE_NODISCARD
 bool deerlapse_quic_key_open(const deerlapse_quic_key *key, uint64_t number, const uint8_t *header, size_t header_len,
                              uint8_t *payload, size_t payload_len, size_t *plaintext_len);
@@ -552,7 +560,7 @@ bool deerlapse_quic_key_open(const deerlapse_quic_key *key, uint64_t number, con
 DEERLAPSE_CALL
 void deerlapse_quic_key_wipe(deerlapse_quic_key *key);
 
-/* An AES key that masks the headers of QUIC's packets in one direction (RFC 9001 section 5.4.3), and seals nothing. As a
+/* An AES key that masks the headers of QUIC's packets in one direction (RFC 9001 section 5.4.3), and seals nothing. Like a
  * deerlapse_quic_key, it is in the caller's memory and contains no pointer, threads may share it, every call under a key of
  * zeros returns false, and any other memory must only be passed to the calls that initialize it and to
  * deerlapse_quic_header_key_wipe. */
@@ -568,8 +576,8 @@ typedef struct deerlapse_quic_header_key {
 DEERLAPSE_NODISCARD
 bool deerlapse_quic_header_key_init(deerlapse_quic_header_key *key, const uint8_t *bytes, size_t len);
 
-/* Expands the key of a secret that masks headers (RFC 9001 section 5.1, RFC 9369 section 3.3.2). Its previous bytes are not
- * read. A key update leaves it as it is (RFC 9001 section 6.1).
+/* Expands the header protection key of a secret (RFC 9001 section 5.1, RFC 9369 section 3.3.2). Its previous bytes are not
+ * read. A key update doesn't change this key (RFC 9001 section 6.1).
  *
  *   version, secret   as for deerlapse_quic_key_from_secret
  *
@@ -592,20 +600,20 @@ DEERLAPSE_CALL
 void deerlapse_quic_header_key_wipe(deerlapse_quic_header_key *key);
 
 /* A key and an IV that protect the records of TLS 1.3 in one direction by their numbers (RFC 8446 section 5.2). What is said of
- * the memory, the threads and the numbers of a deerlapse_quic_key holds for it; how many records a key may seal is in RFC 8446
- * section 5.5. */
+ * the memory, the threads and the numbers of a deerlapse_quic_key holds for it. RFC 8446 section 5.5 says how many records a
+ * key may seal. */
 typedef struct deerlapse_record_key {
     uint64_t words[401]; /* private: neither read nor write them */
 } deerlapse_record_key;
 
-/* Initializes a key, as deerlapse_quic_key_init does.
+/* Initializes a key. Its previous bytes are not read. The parameters are those of deerlapse_quic_key_init.
  *
  * Returns false if len is neither 16 nor 32. */
 DEERLAPSE_NODISCARD
 bool deerlapse_record_key_init(deerlapse_record_key *key, const uint8_t *bytes, size_t len,
                                const uint8_t iv[DEERLAPSE_NONCE_LEN]);
 
-/* Initializes the key and the IV of a traffic secret (RFC 8446 section 7.3). Its previous bytes are not read.
+/* Initializes a key with the key and the IV of a traffic secret (RFC 8446 section 7.3). Its previous bytes are not read.
  *
  *   secret   secret_len bytes: 32 for TLS_AES_128_GCM_SHA256, 48 for TLS_AES_256_GCM_SHA384
  *
@@ -621,13 +629,14 @@ bool deerlapse_record_key_from_secret(deerlapse_record_key *key, const uint8_t *
 DEERLAPSE_NODISCARD
 bool deerlapse_tls_next_secret(uint8_t *secret, size_t secret_len);
 
-/* Seals the payload of a record in place: the bytes after its header. payload_len, which the header announces, gives the AAD.
+/* Seals the payload of a record in place, which is all of the record but its header. The AAD is the header that announces
+ * payload_len bytes.
  *
  *   key            initialized, or zeros
  *   number         the number of the record
  *   content_type   the type of the content, not 0
- *   payload        payload_len bytes, at most 2^14 + 17: the content, and at least 17 bytes more, which are written: the type,
- *                  as many zeros as there is room for, as padding, and the tag
+ *   payload        payload_len bytes, at most 2^14 + 17: the content, and at least 17 bytes after it. These are overwritten
+ *                  with the type, as many zeros as there is room for, as padding, and the tag
  *   content_len    at most payload_len - 17
  *
  * Returns false if the key is zeros, if the type is 0, if payload_len is above 2^14 + 17, or if there are fewer than 17 bytes
@@ -636,17 +645,17 @@ DEERLAPSE_NODISCARD
 bool deerlapse_record_key_seal(const deerlapse_record_key *key, uint64_t number, uint8_t content_type, uint8_t *payload,
                                size_t payload_len, size_t content_len);
 
-/* Opens the payload of a record in place. On success the content is at `payload`; its type, the padding and the tag are
- * after it.
+/* Opens the payload of a record in place. On success the content is at `payload`. Its type, the padding and the tag are after
+ * it.
  *
  *   key, number    as for deerlapse_record_key_seal
- *   payload        payload_len bytes, 17 to 2^14 + 256: those after the header, which announces as many
- *   content_type   written on success: the type of the content or, if the plaintext is zeros alone and so has none, 0
+ *   payload        payload_len bytes, 17 to 2^14 + 256: all of the record but its header, which announces this length
+ *   content_type   written on success: the type of the content, or 0 if the plaintext is all zeros, and so has no type
  *   content_len    written on success: the length of the content, or 0 if it has no type
  *
- * A record without a type, one whose type isn't known, and one whose plaintext, without the tag, has more than 2^14 + 1
- * bytes are authentic, and TLS rejects them (RFC 8446 sections 5.2 and 5.4): this is left to the caller, as are the rules of
- * each type.
+ * The call also opens authentic records that TLS rejects: one without a type, one whose type isn't known, and one whose
+ * plaintext, without the tag, has more than 2^14 + 1 bytes (RFC 8446 sections 5.2 and 5.4). The caller has to reject them, and
+ * to apply the rules of each type.
  *
  * Returns false if the tag is wrong, if the key is zeros, or if payload_len is below 17 or above 2^14 + 256. */
 DEERLAPSE_NODISCARD
@@ -666,7 +675,7 @@ DEERLAPSE_NODISCARD
 bool deerlapse_mask_aes(const uint8_t *key, size_t key_len, const uint8_t sample[DEERLAPSE_SAMPLE_LEN],
                         uint8_t mask[DEERLAPSE_MASK_LEN]);
 
-/* The same with ChaCha20 (RFC 9001 section 5.4.4), which has no key to expand. */
+/* Writes the mask for a sample with ChaCha20 (RFC 9001 section 5.4.4), which has no key to expand. */
 DEERLAPSE_CALL
 void deerlapse_mask_chacha20(const uint8_t key[32], const uint8_t sample[DEERLAPSE_SAMPLE_LEN],
                              uint8_t mask[DEERLAPSE_MASK_LEN]);
@@ -676,7 +685,7 @@ void deerlapse_mask_chacha20(const uint8_t key[32], const uint8_t sample[DEERLAP
  *
  *   in_out   in_out_len bytes
  *
- * Returns false if the stream would go past the last block, whose counter is 2^32 - 1. */
+ * Returns false if in_out would need a block after the last one, whose counter is 2^32 - 1. */
 DEERLAPSE_NODISCARD
 bool deerlapse_chacha20(const uint8_t key[32], const uint8_t nonce[DEERLAPSE_NONCE_LEN], uint32_t counter,
                         uint8_t *in_out, size_t in_out_len);
@@ -685,13 +694,13 @@ bool deerlapse_chacha20(const uint8_t key[32], const uint8_t nonce[DEERLAPSE_NON
  * the program with SIGILL, or on Windows with an illegal instruction. With a compiler that defines neither __GNUC__ nor
  * _MSC_VER, it returns true on every processor.
  *
- * The name in the call is that of an inline function, so a program of deerlapse.h and the assembly has it too. libdeerlapse.a
- * and libdeerlapse.so also have a function of this name, for callers without deerlapse.h. */
+ * In a program that includes deerlapse.h this is an inline function, for which the assembly alone is enough. libdeerlapse.a and
+ * libdeerlapse.so also have a function of this name, for callers without deerlapse.h. */
 bool deerlapse_cpu_supported(void);
 
 /* The functions of the library take no null pointer. So from here on, the name of every function that has a pointer with a
- * length is that of a wrapper, which passes another address if the length is 0. Those from one buffer to another, such as
- * deerlapse_key_seal_to, are wrappers from the start. The test of the processor comes first. */
+ * length is that of a wrapper, which passes another address if the length is 0. The functions that seal or open from one buffer
+ * to another, such as deerlapse_key_seal_to, are wrappers from the start. The test of the processor comes first. */
 
 static inline bool deerlapse_cpu_supported_inline(void) {
 #if defined(__GNUC__) && defined(__x86_64__) && DEERLAPSE_X86_64_LEVEL >= 3
@@ -800,7 +809,7 @@ DEERLAPSE_WRAPS(1, 2, 7)
 bool deerlapse_key_seal_append_tag(const deerlapse_key *key, const uint8_t nonce[DEERLAPSE_NONCE_LEN],
                                    const uint8_t *aad, size_t aad_len, const uint8_t *in, size_t in_len,
                                    uint8_t *out) {
-    /* Above 2^36 - 32, the call in place would refuse the length, and out + in_len may be no pointer. */
+    /* The call in place refuses a length above 2^36 - 32, for which out + in_len may be no valid pointer. */
     if (in == out && in_len > 0xfffffffe0) return false;
     if (in == out) return deerlapse_key_seal(key, nonce, aad, aad_len, out, in_len, out + in_len);
     return deerlapse_key_seal_append_tag_sized(key, nonce, deerlapse_to_read(aad, aad_len), aad_len,
@@ -889,7 +898,7 @@ DEERLAPSE_WRAPS(1, 2, 7)
 bool deerlapse_xaes_seal_append_tag(const deerlapse_xaes *key, const uint8_t nonce[DEERLAPSE_XAES_NONCE_LEN],
                                     const uint8_t *aad, size_t aad_len, const uint8_t *in, size_t in_len,
                                     uint8_t *out) {
-    /* Above 2^36 - 32, the call in place would refuse the length, and out + in_len may be no pointer. */
+    /* The call in place refuses a length above 2^36 - 32, for which out + in_len may be no valid pointer. */
     if (in == out && in_len > 0xfffffffe0) return false;
     if (in == out) return deerlapse_xaes_seal(key, nonce, aad, aad_len, out, in_len, out + in_len);
     return deerlapse_xaes_seal_append_tag_sized(key, nonce, deerlapse_to_read(aad, aad_len), aad_len,

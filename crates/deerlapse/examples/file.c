@@ -1,8 +1,9 @@
 /* Seals a file in chunks, and opens it. It refuses a file that was cut, or in which chunks were exchanged or are another file's.
  *
- * A sealed file begins with 32 random bytes, of which, and of the caller's key, HKDF makes a key and an IV for this file alone: a
- * sealer begins with number 0 for each file. Chunks of 64 KiB follow, each before its tag. The last one may be shorter, or empty,
- * and its AAD is 1, where that of the others is 0. This is an example, and no format: the program seal_file has one.
+ * A sealed file begins with 32 random bytes. HKDF makes of them and of the caller's key a key and an IV for this file alone, so a
+ * sealer begins with number 0 for each file. Chunks of 64 KiB follow, each with its tag after it. The last chunk may be shorter, or
+ * empty, and its AAD is the byte 1. The AAD of every other chunk is the byte 0. This is an example, and no format for files: the
+ * program seal_file has one.
  *
  * For Windows, link bcrypt too. */
 #define _DEFAULT_SOURCE /* for getentropy, as glibc and musl declare it */
@@ -19,7 +20,7 @@
 
 enum { KEY_LEN = 32, SALT_LEN = 32, CHUNK_LEN = 1 << 16 };
 
-/* Up to 256 bytes of the system's random generator. */
+/* Draws up to 256 bytes from the system's random generator. */
 static bool draw(uint8_t *bytes, size_t len) {
 #if defined(_WIN32)
     return BCryptGenRandom(NULL, bytes, (ULONG)len, BCRYPT_USE_SYSTEM_PREFERRED_RNG) == 0;
@@ -28,7 +29,7 @@ static bool draw(uint8_t *bytes, size_t len) {
 #endif
 }
 
-/* The key of a file, and after it the IV. */
+/* Writes the key of a file, and after it the IV. */
 static bool derive(const uint8_t key[KEY_LEN], const uint8_t salt[SALT_LEN], uint8_t out[KEY_LEN + DEERLAPSE_NONCE_LEN]) {
     static const uint8_t info[] = "deerlapse example file";
     uint8_t prk[DEERLAPSE_SHA256_LEN];
@@ -36,7 +37,7 @@ static bool derive(const uint8_t key[KEY_LEN], const uint8_t salt[SALT_LEN], uin
            deerlapse_hkdf_expand(prk, sizeof prk, info, sizeof info - 1, out, KEY_LEN + DEERLAPSE_NONCE_LEN);
 }
 
-/* Whether there is no byte left, or none can be read. */
+/* Returns whether no byte is left, or none can be read. */
 static bool is_at_end(FILE *in) {
     int byte = getc(in);
     if (byte != EOF) ungetc(byte, in);

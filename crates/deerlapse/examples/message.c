@@ -11,7 +11,7 @@
 #include <unistd.h>
 #endif
 
-/* Up to 256 bytes of the system's random generator. */
+/* Draws up to 256 bytes from the system's random generator. */
 static bool draw(uint8_t *bytes, size_t len) {
 #if defined(_WIN32)
     return BCryptGenRandom(NULL, bytes, (ULONG)len, BCRYPT_USE_SYSTEM_PREFERRED_RNG) == 0;

@@ -1,10 +1,10 @@
-/* Seals messages in pieces, under a key of their own and nonces that are counted here, and opens them in one call. */
+/* Seals messages in pieces, under a key that seals nothing else and nonces that the program counts, and opens each in one call. */
 #include "deerlapse.h"
 #include <stdio.h>
 
 enum { TEXT_LEN = 13, PIECE_LEN = 5, MESSAGES = 2 };
 
-static const uint8_t bytes[32] = {0}; /* under a real key nothing else is sealed */
+static const uint8_t bytes[32] = {0}; /* a real key is drawn at random, and seals nothing else */
 static const uint8_t iv[DEERLAPSE_NONCE_LEN] = {0}; /* the same at both ends */
 
 /* Seals a message in place, under the nonce of its number, and writes the tag after it. */

@@ -5,8 +5,8 @@
 
 enum { NUMBER_AT = 18, HEADER_LEN = 20, PAYLOAD_LEN = 5, NUMBER = 7 };
 
-/* XORs the bits of the header that a mask covers: of a long header four bits of the first byte, and the packet number, of two
- * bytes here (RFC 9001 section 5.4.1). The sample begins four bytes after the number. */
+/* XORs the bits of a long header that a mask covers: four bits of the first byte, and the packet number, which has two bytes here
+ * (RFC 9001 section 5.4.1). The sample begins four bytes after the first byte of the number. */
 static bool mask(const deerlapse_quic_header_key *header_key, uint8_t *packet) {
     uint8_t bytes[DEERLAPSE_MASK_LEN];
     if (!deerlapse_quic_header_key_mask(header_key, packet + NUMBER_AT + 4, bytes)) return false;

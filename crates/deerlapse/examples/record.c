@@ -1,4 +1,4 @@
-/* Seals a record of TLS 1.3 under a traffic secret, and opens it under the key that the other end has of the same secret. */
+/* Seals a record of TLS 1.3 under a traffic secret, and opens it under the key that the other end derives from the same secret. */
 #include "deerlapse.h"
 #include <stdio.h>
 

@@ -1,4 +1,4 @@
-/* Encrypts with the ChaCha20 stream, and decrypts. Whoever changes the ciphertext changes the text, and no call sees it. */
+/* Encrypts with the ChaCha20 stream, and decrypts. No call notices that a ciphertext was changed: the plaintext is changed too. */
 #include "deerlapse.h"
 #include <stdio.h>
 

@@ -1,5 +1,5 @@
-/* What this program needs of the library, once for each level of x86-64 processors. A key that one level made may be used by the
- * other. */
+/* The calls of the library that this program makes, once for each level of x86-64 processors. A key that was initialized by the
+ * call of one level may be used by those of the other. */
 #include "deerlapse.h"
 
 typedef struct level {
