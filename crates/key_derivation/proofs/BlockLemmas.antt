@@ -1,4 +1,4 @@
--- Bytes made block by block: the number of blocks, and one more block.
+-- Bytes made block by block: how many blocks a length takes, and what one more block adds.
 use Rattle.std.proofs.Common.{◌≡◌, ℕ, zero, suc, ◌+◌, ◌-◌, ◌*◌, ◌/◌, ◌<◌, ◌≤◌, List, [], ◌++◌, length, take, drop, min, refl, sym, ap, ◌∙◌, subst, add-one, length-append, length-take, length-drop, arith}
 use Rattle.std.proofs.Math.Nat.{div-eq_of_lt-le, div-mul-le_self, lt-div-mul-add, mul-le-mul_left, mul_comm}
 use Rattle.std.proofs.Math.Seq.{drop-append_seam, take-append-add}
@@ -24,7 +24,7 @@ length-joined_blocks f l long (suc n) =
     let next : suc n * l ≡ n * l + l = ap (λ k. k * l) (sym (add-one n)) ∙ more n l in
     omega arith
 
--- a block that begins is needed
+-- each block below the count begins before the end
 pub needed : (i l len : ℕ) → 0 < l → i < (len + l - 1) / l → i * l < len
 needed i l len some below =
     let count = (len + l - 1) / l in
@@ -35,20 +35,21 @@ needed i l len some below =
     let step = more i l in
     omega arith
 
--- the blocks suffice
+-- the counted blocks have at least `len` bytes
 enough : (l len : ℕ) → 0 < l → len ≤ (len + l - 1) / l * l
 enough l len some =
     let past : len + l - 1 < (len + l - 1) / l * l + l = lt-div-mul-add some in
     omega arith
 
--- their number, computed from two reads of the length
+-- the count of blocks, computed from two reads a and b of the block's length l
 pub same_count : (i len a b l : ℕ) → a ≡ l → b ≡ l → i ≡ (len + a - 1) / b → i ≡ (len + l - 1) / l
 same_count i len a b l is_a is_b e = e ∙ ap (λ x. (len + x - 1) / b) is_a ∙ ap (λ x. (len + l - 1) / x) is_b
 
--- the bytes filled after one more block
+-- how many bytes are filled after one more block
 pub filled_more : (i l len filled n : ℕ) → i * l < len → filled ≡ min (i * l) len → n ≡ min l (len - filled) → filled + n ≡ min ((i + 1) * l) len
 filled_more i l len filled n below so_far is_n = let step = more i l in omega arith
 
+-- what is filled after one more block
 pub written_more : (f : ℕ → List ℕ) (out part block : List ℕ) (i l filled n k : ℕ) → HaveLength f l → i * l < length out
     → filled ≡ min (i * l) (length out)
     → n ≤ l → length part ≡ n → part ≡ take n block → block ≡ f (i + 1) → filled + n ≤ length out → take filled out ≡ take filled (joined_blocks f i)
@@ -65,7 +66,7 @@ written_more f out part block i l filled n k long below so_far small part_len is
     take-put_mid filled k out part (filled + n) (omega arith) (omega arith)
     ∙ ap (λ x. x ++ part) (before ∙ all) ∙ ap (λ x. blocks ++ x) is_part ∙ sym seam ∙ ap (λ x. take (filled + n) (blocks ++ x)) is_block ∙ unfolds
 
--- the last of the blocks that fill the front
+-- the block that ends at `filled`: f i, or no bytes before the first block
 pub last_block : (f : ℕ → List ℕ) (out : List ℕ) (i l filled : ℕ) → HaveLength f l → f 0 ≡ [] → filled ≡ i * l
     → take filled out ≡ take filled (joined_blocks f i) → take (filled - (filled - l)) (drop (filled - l) out) ≡ f i
 unfolding joined_blocks
@@ -84,7 +85,7 @@ last_block f out (suc n) l filled long none is_filled before =
     sym (drop-take (filled - l) (filled - (filled - l)) out) ∙ ap (λ k. drop (filled - l) (take k out)) span
     ∙ ap (drop (filled - l)) (before ∙ whole) ∙ ap (λ k. drop k (blocks ++ last)) start ∙ drop-append_seam blocks last
 
--- all blocks
+-- after all blocks, the whole output is filled
 pub filled_all : (f : ℕ → List ℕ) (out : List ℕ) (i l block_len len filled : ℕ) → 0 < l → block_len ≡ l → len ≡ length out → i ≡ (len + l - 1) / l
     → filled ≡ min (i * l) (length out) → take filled out ≡ take filled (joined_blocks f i) → out ≡ first_bytes f block_len len
 unfolding first_bytes
@@ -98,7 +99,7 @@ filled_all f out i l block_len len filled some is_l is_len is_i so_far written =
 pub length-put_mid : (a k : ℕ) (xs ys : List ℕ) → length ys ≡ k → a + k ≤ length xs → length (put_mid a k xs ys) ≡ length xs
 length-put_mid a k xs ys part within = simp (length-append, length-take, length-drop) (omega arith)
 
--- as many bytes as a block has are the first block
+-- the first l bytes are the first block, if blocks have l bytes
 pub one_block : (f : ℕ → List ℕ) (l block_len : ℕ) → HaveLength f l → 0 < l → block_len ≡ l → first_bytes f block_len l ≡ f 1
 unfolding first_bytes joined_blocks
 one_block f l block_len long some is_l =

@@ -28,7 +28,7 @@ next_code h password salt code index n e =
     let P : ℕ → Type 0 = λ k. hmac h password (pbkdf2_u h password salt index n) ≡ pbkdf2_u h password salt index k in
     e ∙ subst P (sym (add-one n)) refl
 
--- one more code, XORed into a sum that is as long
+-- the sum of n codes, XORed with code n + 1, is the sum of n + 1 codes
 pub next_sum : (h : HashFunction) (l : ℕ) → HasLength h l → h.output_len ≡ l → (password salt was now code : List ℕ) (index n : ℕ)
     → (length was ≡ length code → now ≡ was ⊕ code) → was ≡ pbkdf2_sum h password salt index n
     → code ≡ pbkdf2_u h password salt index (n + 1) → now ≡ pbkdf2_sum h password salt index (n + 1)

@@ -6,6 +6,6 @@ unfoldable pub joined_blocks : (ℕ → List ℕ) → ℕ → List ℕ
 joined_blocks f zero = []
 joined_blocks f (suc n) = joined_blocks f n ++ f (suc n)
 
--- the first `len` bytes of as many blocks of `block_len` bytes as it takes
+-- the first `len` bytes of f 1 | f 2 | .., where each block has `block_len` bytes
 unfoldable pub first_bytes : (ℕ → List ℕ) → (block_len len : ℕ) → List ℕ
 first_bytes f block_len len = take len (joined_blocks f ((len + block_len - 1) / block_len))

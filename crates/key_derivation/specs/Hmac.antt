@@ -6,14 +6,15 @@ use Rattle.key_derivation.specs.Hash.{HashFunction}
 abbrev pub short_key : HashFunction → List ℕ → List ℕ
 short_key h key = if nat_lt h.block_len (length key) then h.hash key else key
 
--- that key with zeros up to the length of a block (section 2, step 1)
+-- the short key with zeros after it, up to the length of a block (section 2, step 1)
 abbrev pub block_key : HashFunction → List ℕ → List ℕ
 block_key h key = let short = short_key h key in short ++ replicate (h.block_len - length short) 0
 
--- that block, XORed with ipad and with opad (section 2, steps 2 and 5)
+-- the block of the key, XORed with ipad (section 2, step 2)
 unfoldable pub inner_block : HashFunction → List ℕ → List ℕ
 inner_block h key = map (bit_xor 0x36) (block_key h key)
 
+-- the block of the key, XORed with opad (section 2, step 5)
 unfoldable pub outer_block : HashFunction → List ℕ → List ℕ
 outer_block h key = map (bit_xor 0x5c) (block_key h key)
 

@@ -1,4 +1,4 @@
--- Keys of HMAC and of HKDF-Expand as contracts see them.
+-- What contracts say of a kept key of HMAC or of HKDF-Expand: the key's hashers have absorbed its two blocks.
 use Rattle.std.specs.Prelude.{ℕ, List, map}
 use Rattle.std.specs.Borrow.{Bor}
 use Rattle.std.specs.List.{concat}
@@ -7,12 +7,12 @@ use Rattle.key_derivation.specs.Hmac.{inner_block, outer_block}
 use Rattle.key_derivation.specs.declared.hkdf.Expander.{Expander}
 use Rattle.key_derivation.specs.declared.hmac.HmacKey.{HmacKey}
 
--- the two hashers have absorbed the two blocks of this key; `holds` says which message a hasher has absorbed
+-- `made` is the kept key: its two hashers have absorbed the two blocks of `key`; `holds` says which message a hasher has absorbed
 pub record IsKey {S : Type 0} (h : HashFunction) (holds : S → List ℕ → Type 0) (key : List ℕ) (made : HmacKey S) : Type 0 where
   pub inner : holds made.inner (inner_block h key)
   pub outer : holds made.outer (outer_block h key)
 
--- the key of HMAC is of this pseudorandom key
+-- the expander's HMAC key was made of this pseudorandom key
 abbrev pub IsExpander : {S : Type 0} → HashFunction → (S → List ℕ → Type 0) → (prk : List ℕ) → Expander S → Type 0
 IsExpander h holds prk made = IsKey h holds prk made.key
 

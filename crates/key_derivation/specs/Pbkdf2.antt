@@ -22,6 +22,6 @@ unfoldable pub pbkdf2_sum : HashFunction → (password salt : List ℕ) → (ind
 pbkdf2_sum h password salt index zero = replicate h.output_len 0
 pbkdf2_sum h password salt index (suc n) = pbkdf2_sum h password salt index n ⊕ pbkdf2_u h password salt index (suc n)
 
--- F (P, S, c, i) for each block, joined and cut
+-- T_1 | T_2 | .., where T_i = F (P, S, c, i), cut to `len` bytes
 abbrev pub pbkdf2 : HashFunction → (password salt : List ℕ) → (count len : ℕ) → List ℕ
 pbkdf2 h password salt count len = first_bytes (λ index. pbkdf2_sum h password salt index count) h.output_len len

@@ -17,7 +17,7 @@ abbrev pub numbered_version : ℕ → Option Version
 numbered_version number =
     if number == version_number One then Some One else if number == version_number Two then Some Two else None
 
--- a secret of QUIC: the version whose labels it has, and the secret
+-- a secret of QUIC: the version, which determines the labels, and the traffic secret
 pub record QuicSecretState : Type 0 where
   pub version : Version
   pub secret : SecretState
@@ -63,10 +63,11 @@ initial_salt Two =
     0x0d ∷ 0xed ∷ 0xe3 ∷ 0xde ∷ 0xf7 ∷ 0x00 ∷ 0xa6 ∷ 0xdb ∷ 0x81 ∷ 0x93 ∷
     0x81 ∷ 0xbe ∷ 0x6e ∷ 0x26 ∷ 0x9d ∷ 0xcb ∷ 0xf9 ∷ 0xbd ∷ 0x2e ∷ 0xd9 ∷ []
 
--- initial_secret, and the secret of an endpoint by its label (RFC 9001 section 5.2)
+-- initial_secret (RFC 9001 section 5.2)
 abbrev pub initial_secret : Version → (id : List ℕ) → List ℕ
 initial_secret version id = hkdf_extract sha_256 (initial_salt version) id
 
+-- client_initial_secret or server_initial_secret, by its label (RFC 9001 section 5.2)
 abbrev pub endpoint_secret : Version → (id label : List ℕ) → QuicSecretState
 endpoint_secret version id label = record {
   version = version;

@@ -20,7 +20,7 @@ pub enum DerivationError {
     /// The hash of the messages is not as long as the hash function's digests (RFC 8446 section 4.4.1).
     #[error("the hash of the messages does not have the length of a digest")]
     TranscriptHashLength,
-    /// More bytes are asked for than the function gives: 255 digests by HKDF (RFC 5869 section 2.3), 2^32 - 1 digests by
+    /// The output is longer than the function can make it: 255 digests by HKDF (RFC 5869 section 2.3), 2^32 - 1 digests by
     /// PBKDF2 (RFC 8018 section 5.2).
     #[error("more bytes are asked for than the function gives")]
     TooLong,

@@ -1,4 +1,4 @@
-//! The hash functions, as HMAC uses them.
+//! The hash functions under HMAC, SHA-256 and SHA-384, with the lengths of their blocks and digests (FIPS 180-4).
 
 ghost use Rattle.std.proofs.Common.{lit<, lit≤};
 ghost use Rattle.std.specs.Prelude.{◌≡◌, ℕ, ◌<◌, ◌≤◌, List, length, refl};
@@ -9,9 +9,10 @@ ghost use Rattle.sha2.proofs.Facts512.{length-sha384};
 use sha2::{Digest, Sha256, Sha384};
 use std::convert::AsSlice;
 
-/// The lengths of the longest block and of the longest digest in bytes, those of SHA-384.
+/// The length of the longest block in bytes, that of SHA-384.
 pub(crate) const MAX_BLOCK_LEN: usize = 128;
 
+/// The length of the longest digest in bytes, that of SHA-384.
 pub(crate) const MAX_OUTPUT_LEN: usize = 48;
 
 /// A hash function with its lengths: SHA-256 or SHA-384.
@@ -29,7 +30,7 @@ pub trait Hash: Digest<Output: AsSlice<u8> + Drop> {
     /// The length of a digest in bytes.
     const OUTPUT_LEN: usize;
 
-    /// Returns a second hasher of the same message.
+    /// Returns a second hasher, which has absorbed the same message.
     fn fork(&self) -> Self
         ensures { (m : List ℕ) → Self.holds self.now m → Self.holds result m };
 

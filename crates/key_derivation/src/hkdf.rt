@@ -43,7 +43,7 @@ pub fn expand<H: Hash>(prk: &[u8], info: &[u8], out: &mut [u8]) -> Result<(), De
     Expander::<H>::new(prk).expand(&[info], out)
 }
 
-/// A pseudorandom key from which HKDF-Expand makes any number of outputs (RFC 5869 section 2.3), by one key of HMAC.
+/// A pseudorandom key of HKDF-Expand (RFC 5869 section 2.3), kept as one HMAC key for any number of outputs.
 #[derive(Drop)]
 pub struct Expander<H> {
     key: HmacKey<H>,
@@ -59,7 +59,8 @@ impl<H: Hash> Expander<H> {
         }
     }
 
-    /// Fills `out` with output keying material. The info is the pieces of `info`, one after another.
+    /// HKDF-Expand (RFC 5869 section 2.3): fills `out` with output keying material. The pieces of `info`, one after another,
+    /// are the info.
     ///
     /// Fails with `TooLong` if `out` is longer than 255 digests. It is then unchanged.
     pub fn expand(&self, info: &[&[u8]], out: &mut [u8]) -> Result<(), DerivationError>
@@ -69,12 +70,13 @@ impl<H: Hash> Expander<H> {
             → out.new ≡ hkdf_expand H.function prk (joined_pieces info.now) (length out.old)) }
         ensures kept { OnErr result (out.new ≡ out.old) }
     {
-        check_len::<H>(out.len())?;
+        check_okm_len::<H>(out.len())?;
         self.fill_okm(info, out);
         Ok(())
     }
 
-    /// Returns the output keying material that is as long as a digest.
+    /// HKDF-Expand for a length of one digest: returns the output keying material. The pieces of `info`, one after another, are
+    /// the info.
     pub fn expand_block(&self, info: &[&[u8]]) -> H::Output
         ensures { (prk : List ℕ) → IsExpander H.function H.holds prk self.now
             → H.Output.items result ≡ hkdf_expand H.function prk (joined_pieces info.now) H.OUTPUT_LEN }
@@ -106,7 +108,8 @@ impl<H: Hash> Expander<H> {
         }
     }
 
-    /// Fills `out` by a label, where no length is above its limit.
+    /// HKDF-Expand-Label (RFC 8446 section 7.1): fills `out`, where no length is above its limit.
+    // Not inlined, so that the C library contains one copy per hash function.
     #[inline(never)]
     pub(crate) fn fill_labeled(&self, label: &[u8], context: &[u8], out: &mut [u8])
         requires label { length label.now ≤ 249 }
@@ -116,11 +119,11 @@ impl<H: Hash> Expander<H> {
             → out.new ≡ hkdf_expand_label H.function secret label.now context.now (length out.old) }
     {
         let mut info = [0u8; MAX_INFO_LEN];
-        let len = write_label(&mut info, label, context, out.len() as u16);
+        let len = write_hkdf_label(&mut info, label, context, out.len() as u16);
         self.fill_okm(&[&info[..len]], out);
     }
 
-    /// Returns the key of a suite by a label, with no context.
+    /// Returns a key that is as long as the suite's keys: HKDF-Expand-Label with this label and an empty context.
     pub(crate) fn suite_key(&self, label: &[u8], suite: Suite) -> ArrayVec<u8, AES_256_KEY_LEN>
         requires { length label.now ≤ 249 }
         ensures key { (secret : List ℕ) → IsExpander H.function H.holds secret self.now
@@ -136,7 +139,7 @@ impl<H: Hash> Expander<H> {
         key
     }
 
-    /// Returns as many bytes as the array has by a label, with no context.
+    /// Returns an array: HKDF-Expand-Label with this label, an empty context and the length of the array.
     pub(crate) fn labeled<const N: usize>(&self, label: &[u8]) -> [u8; N]
         requires label { length label.now ≤ 249 }
         requires len { N ≤ 255 * H.OUTPUT_LEN }
@@ -149,7 +152,7 @@ impl<H: Hash> Expander<H> {
     }
 }
 
-/// Adds the pieces to the message of a hasher.
+/// Returns the hasher after it has absorbed the pieces, one after another.
 fn update_all<H: Hash>(mut hasher: H, pieces: &[&[u8]]) -> H
     ensures { (m : List ℕ) → H.holds hasher m → H.holds result (m ++ joined_pieces pieces.now) }
 {
@@ -184,7 +187,7 @@ pub fn expand_label<H: Hash>(
     if context.len() > MAX_CONTEXT_LEN {
         return Err(DerivationError::ContextLength);
     }
-    check_len::<H>(out.len())?;
+    check_okm_len::<H>(out.len())?;
     Expander::<H>::new(secret).fill_labeled(label, context, out);
     Ok(())
 }
@@ -213,11 +216,11 @@ pub fn derive_secret<H: Hash>(
         return Err(DerivationError::TranscriptHashLength);
     }
     let mut info = [0u8; MAX_INFO_LEN];
-    let len = write_label(&mut info, label, transcript_hash, H::OUTPUT_LEN as u16);
+    let len = write_hkdf_label(&mut info, label, transcript_hash, H::OUTPUT_LEN as u16);
     Ok(Expander::<H>::new(secret).expand_block(&[&info[..len]]))
 }
 
-/// Checks that a label has a length that is allowed.
+/// Checks that a label has 1 to 249 bytes.
 fn check_label(label: &[u8]) -> Result<(), DerivationError>
     ensures accepted { IsOk result ↔ IsLabel label.now }
     ensures refused { IsOkUnless result DerivationError.LabelLength }
@@ -228,8 +231,8 @@ fn check_label(label: &[u8]) -> Result<(), DerivationError>
     Ok(())
 }
 
-/// Checks that an output is not longer than 255 digests.
-fn check_len<H: Hash>(len: usize) -> Result<(), DerivationError>
+/// Checks that output keying material of `len` bytes is not longer than 255 digests (RFC 5869 section 2.3).
+fn check_okm_len<H: Hash>(len: usize) -> Result<(), DerivationError>
     ensures accepted { IsOk result ↔ (len ≤ 255 * H.OUTPUT_LEN) }
     ensures refused { IsOkUnless result DerivationError.TooLong }
 {
@@ -239,24 +242,24 @@ fn check_len<H: Hash>(len: usize) -> Result<(), DerivationError>
     Ok(())
 }
 
-/// Writes the HkdfLabel, and returns its length.
+/// Writes the HkdfLabel of an output of `len` bytes (RFC 8446 section 7.1) at the start of `info`, and returns its length.
 #[inline(never)]
-fn write_label(info: &mut [u8; MAX_INFO_LEN], label: &[u8], context: &[u8], len: u16) -> usize
+fn write_hkdf_label(info: &mut [u8; MAX_INFO_LEN], label: &[u8], context: &[u8], len: u16) -> usize
     requires label { length label.now ≤ 249 }
     requires context { length context.now ≤ 255 }
     ensures len { result ≤ 514 }
     ensures written { take result info.new ≡ hkdf_label label.now context.now len }
 {
-    let at = append(info, 0, &len.to_be_bytes());
-    let at = append(info, at, &[(6 + label.len()) as u8]);
-    let at = append(info, at, b"tls13 ");
-    let at = append(info, at, label);
-    let at = append(info, at, &[context.len() as u8]);
-    append(info, at, context)
+    let at = write_at(info, 0, &len.to_be_bytes());
+    let at = write_at(info, at, &[(6 + label.len()) as u8]);
+    let at = write_at(info, at, b"tls13 ");
+    let at = write_at(info, at, label);
+    let at = write_at(info, at, &[context.len() as u8]);
+    write_at(info, at, context)
 }
 
-/// Writes bytes at an index, and returns the index after them.
-fn append(info: &mut [u8; MAX_INFO_LEN], at: usize, bytes: &[u8]) -> usize
+/// Writes `bytes` into `info` from the index `at` on, and returns the index after them.
+fn write_at(info: &mut [u8; MAX_INFO_LEN], at: usize, bytes: &[u8]) -> usize
     requires { at + length bytes.now ≤ 514 }
     ensures end { result ≡ at + length bytes.now }
     ensures written { take result info.new ≡ take at info.old ++ bytes.now }

@@ -1,4 +1,4 @@
-//! HMAC (RFC 2104).
+//! HMAC (RFC 2104): authentication codes by SHA-256 or SHA-384, in one call or under a key that is kept.
 
 ghost use Rattle.std.specs.Prelude.{◌≡◌, ℕ, ◌++◌, ◌<◌, ◌≤◌, ◌↔◌, List, length, map, take, bit_xor, IsTrue};
 ghost use Rattle.key_derivation.specs.Hash.{sha_256, sha_384};
@@ -10,7 +10,7 @@ use aead_ciphers_base::bb;
 use sha2::{Digest, Sha256, Sha384};
 use std::convert::AsSlice;
 
-/// A key of HMAC: the two hashers that have absorbed its two blocks.
+/// A key of HMAC, kept as two hashers that have absorbed it, XORed with ipad and with opad (RFC 2104 section 4).
 #[derive(Drop)]
 pub struct HmacKey<H> {
     inner: H,
@@ -18,8 +18,8 @@ pub struct HmacKey<H> {
 }
 
 impl<H: Hash> HmacKey<H> {
-    /// Creates a key from bytes of any length. It is never inlined, and neither is what is long below it, so that the library for C
-    /// has it once for each hash function.
+    /// Creates a key from bytes of any length.
+    // Not inlined, and neither is `absorb_xored`, so that the C library contains one copy of each per hash function.
     #[inline(never)]
     pub fn new(key: &[u8]) -> Self
         ensures { IsKey H.function H.holds key.now result }
@@ -32,7 +32,7 @@ impl<H: Hash> HmacKey<H> {
         }
     }
 
-    /// Begins a message: returns a hasher to which its bytes are added.
+    /// Begins a message: returns a hasher, which the caller updates with the message.
     pub fn start(&self) -> H
         ensures { (key : List ℕ) → IsKey H.function H.holds key self.now
             → H.holds result (inner_block H.function key) }
@@ -40,7 +40,7 @@ impl<H: Hash> HmacKey<H> {
         self.inner.fork()
     }
 
-    /// Returns the code of the message whose bytes were added to `hasher`.
+    /// Returns the authentication code of the message with which the caller has updated `hasher`, a hasher from `start`.
     pub fn finish(&self, hasher: H) -> H::Output
         ensures { (key text : List ℕ) → IsKey H.function H.holds key self.now
             → H.holds «hasher» (inner_block H.function key ++ text)
@@ -51,9 +51,11 @@ impl<H: Hash> HmacKey<H> {
         outer.finalize()
     }
 
-    /// Returns whether `code` is the code of the message whose bytes were added to `hasher`.
+    /// Returns whether `code` is the authentication code of the message with which the caller has updated `hasher`, a hasher
+    /// from `start`.
     ///
-    /// A code of another length is not. One of the same length is compared to its last byte, wherever it differs.
+    /// A code of another length is never right. One of the same length is compared up to its last byte, wherever the first
+    /// difference is.
     pub fn verify(&self, hasher: H, code: &[u8]) -> bool
         ensures { (key text : List ℕ) → IsKey H.function H.holds key self.now
             → H.holds «hasher» (inner_block H.function key ++ text)
@@ -64,7 +66,7 @@ impl<H: Hash> HmacKey<H> {
     }
 }
 
-/// The key, hashed if it is longer than a block, with zeros after it.
+/// Returns the key, hashed if it is longer than a block, with zeros after it (RFC 2104 section 2, step 1).
 fn key_block<H: Hash>(key: &[u8]) -> [u8; MAX_BLOCK_LEN]
     ensures { take H.BLOCK_LEN result ≡ block_key H.function key.now }
 {
@@ -78,14 +80,14 @@ fn key_block<H: Hash>(key: &[u8]) -> [u8; MAX_BLOCK_LEN]
     block
 }
 
-/// Whether a key is longer than a block.
+/// Returns whether a key is longer than a block.
 fn is_long<H: Hash>(key: &[u8]) -> bool
     ensures { IsTrue result ↔ (H.BLOCK_LEN < length key.now) }
 {
     key.len() > H::BLOCK_LEN
 }
 
-/// A hasher of the block, each byte XORed with `pad`.
+/// Returns a hasher that has absorbed the block, each of its bytes XORed with `pad`.
 #[inline(never)]
 fn absorb_xored<H: Hash>(block: &[u8], pad: u8) -> H
     requires { length block.now ≤ 128 }
@@ -100,7 +102,7 @@ fn absorb_xored<H: Hash>(block: &[u8], pad: u8) -> H
     hasher
 }
 
-/// Returns the code of a message.
+/// Returns the authentication code of a message.
 pub fn hmac<H: Hash>(key: &[u8], text: &[u8]) -> H::Output
     ensures { H.Output.items result ≡ hmac H.function key.now text.now }
 {
@@ -110,14 +112,14 @@ pub fn hmac<H: Hash>(key: &[u8], text: &[u8]) -> H::Output
     key.finish(hasher)
 }
 
-/// Returns the code of a message under SHA-256.
+/// Returns the authentication code of a message by HMAC-SHA-256.
 pub fn hmac_sha_256(key: &[u8], text: &[u8]) -> [u8; 32]
     ensures { result ≡ hmac sha_256 key.now text.now }
 {
     hmac::<Sha256>(key, text)
 }
 
-/// Returns the code of a message under SHA-384.
+/// Returns the authentication code of a message by HMAC-SHA-384.
 pub fn hmac_sha_384(key: &[u8], text: &[u8]) -> [u8; 48]
     ensures { result ≡ hmac sha_384 key.now text.now }
 {

@@ -1,4 +1,4 @@
-//! The keys that a secret gives, each kind of its own type.
+//! The keys that are derived from a secret: a type for each kind of key.
 
 ghost use Rattle.std.specs.Prelude.{◌≡◌};
 
@@ -31,8 +31,8 @@ impl fmt::Debug for QuicKeys {
     }
 }
 
-/// The keys of one direction of QUIC that a key update replaces: those of payloads, without the one that masks headers (RFC 9001
-/// section 6.1).
+/// The key and the IV for payloads in one direction of QUIC. A key update replaces these two, and keeps the key that masks
+/// headers (RFC 9001 section 6.1).
 #[derive(Drop)]
 pub struct PacketKeys {
     /// The key for payloads.
@@ -51,7 +51,7 @@ impl fmt::Debug for PacketKeys {
     }
 }
 
-/// The key of one direction of TLS 1.3's records (RFC 8446 section 7.3).
+/// The key and the IV for the records in one direction of TLS 1.3 (RFC 8446 section 7.3).
 #[derive(Drop)]
 pub struct RecordKeys {
     /// The key for contents.
@@ -70,7 +70,8 @@ impl fmt::Debug for RecordKeys {
     }
 }
 
-/// The 16 or 32 bytes of an AEAD key, which seals or opens payloads: a `quic key`, or a `key` of TLS 1.3.
+/// The 16 or 32 bytes of an AEAD key, which seals or opens payloads. Its label is `quic key` or `quicv2 key`, or `key` in TLS
+/// 1.3.
 #[derive(Drop)]
 pub struct AeadKeyBytes {
     pub(crate) bytes: ArrayVec<u8, AES_256_KEY_LEN>,
@@ -103,7 +104,7 @@ impl AeadKeyBytes {
     }
 }
 
-/// The 16 or 32 bytes of a key that masks headers: a `quic hp`.
+/// The 16 or 32 bytes of a key that masks headers. Its label is `quic hp` or `quicv2 hp`.
 #[derive(Drop)]
 pub struct HeaderKeyBytes {
     pub(crate) bytes: ArrayVec<u8, AES_256_KEY_LEN>,

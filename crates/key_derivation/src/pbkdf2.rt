@@ -1,4 +1,4 @@
-//! PBKDF2 with HMAC (RFC 8018 section 5.2).
+//! PBKDF2 with HMAC: a key from a password (RFC 8018 section 5.2).
 
 ghost use Rattle.std.specs.Prelude.{◌≡◌, ℕ, ◌*◌, ◌+◌, ◌-◌, ◌^◌, ◌<◌, ◌≤◌, ◌↔◌, List, length, IsOk, OnOk, OnErr, IsErrOf};
 ghost use Rattle.key_derivation.specs.HmacState.{IsKey};
@@ -10,15 +10,15 @@ use crate::hmac::HmacKey;
 use sha2::Digest;
 use std::convert::AsSlice;
 
-/// The number of blocks of a key, at most.
+/// The largest number of blocks of a derived key (RFC 8018 section 5.2, step 1).
 const MAX_BLOCKS: usize = u32::MAX as usize;
 
-/// PBKDF2 with HMAC (RFC 8018 section 5.2): fills `out` with the key of a password, after `count` iterations.
+/// PBKDF2 with HMAC (RFC 8018 section 5.2): fills `out` with the derived key of a password, after `count` iterations.
 ///
-/// An iteration takes two compressions. Whoever has a processor with SHA instructions, which this crate doesn't use, makes
-/// them three to five times as fast, so `count` says nothing by itself of what a guess costs.
+/// An iteration takes two compressions of the hash function. SHA instructions of a processor, which this crate doesn't use, make
+/// them three to five times as fast for an attacker, so `count` alone doesn't say what a guess costs.
 ///
-/// Fails with `NoIterations` if `count` is 0, and else with `TooLong` if `out` is longer than 2^32 - 1 digests. `out` is
+/// Fails with `NoIterations` if `count` is 0, and otherwise with `TooLong` if `out` is longer than 2^32 - 1 digests. `out` is
 /// then unchanged.
 pub fn pbkdf2<H: Hash>(
     password: &[u8],
@@ -45,7 +45,7 @@ pub fn pbkdf2<H: Hash>(
     Ok(())
 }
 
-/// Fills `out`, which is not too long, after one iteration and `further` ones.
+/// Fills `out`, which is not too long, with the derived key after `further + 1` iterations.
 fn fill_derived_key<H: Hash>(password: &[u8], salt: &[u8], further: u32, out: &mut [u8])
     requires { length out.old ≤ (2 ^ 32 - 1) * H.OUTPUT_LEN }
     ensures { out.new ≡ pbkdf2 H.function password.now salt.now (further + 1) (length out.old) }
@@ -64,7 +64,8 @@ fn fill_derived_key<H: Hash>(password: &[u8], salt: &[u8], further: u32, out: &m
     }
 }
 
-/// Writes the XOR of the codes of one block: of the first, and of `further` ones.
+/// Writes the block T_`index` of the derived key into `sum`: the XOR of `further + 1` codes U_1, U_2, .. (RFC 8018 section 5.2,
+/// step 3).
 fn xor_codes<H: Hash>(key: &HmacKey<H>, salt: &[u8], further: u32, index: u32, sum: &mut [u8])
     requires { length sum.old ≡ H.OUTPUT_LEN }
     ensures { (password : List ℕ) → IsKey H.function H.holds password key.now
@@ -84,7 +85,7 @@ fn xor_codes<H: Hash>(key: &HmacKey<H>, salt: &[u8], further: u32, index: u32, s
     }
 }
 
-/// XORs bytes into as many.
+/// XORs `code` into `sum`, which is as long, byte by byte.
 fn xor_into(sum: &mut [u8], code: &[u8])
     ensures { length sum.old ≡ length code.now → sum.new ≡ sum.old ⊕ code.now }
 {

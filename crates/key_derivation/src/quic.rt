@@ -22,12 +22,13 @@ pub const MAX_CONNECTION_ID_LEN: usize = 20;
 /// The number of version 2 (RFC 9369 section 3.1).
 const VERSION_2: u32 = 0x6b3343cf;
 
-/// The salts of version 1 (RFC 9001 section 5.2) and version 2 (RFC 9369 section 3.3.1).
+/// The salt of the Initial secrets in version 1 (RFC 9001 section 5.2).
 const INITIAL_SALT_1: [u8; 20] = [
     0x38, 0x76, 0x2c, 0xf7, 0xf5, 0x59, 0x34, 0xb3, 0x4d, 0x17, 0x9a, 0xe6, 0xa4, 0xc8, 0x0c, 0xad,
     0xcc, 0xbb, 0x7f, 0x0a,
 ];
 
+/// The salt of the Initial secrets in version 2 (RFC 9369 section 3.3.1).
 const INITIAL_SALT_2: [u8; 20] = [
     0x0d, 0xed, 0xe3, 0xde, 0xf7, 0x00, 0xa6, 0xdb, 0x81, 0x93, 0x81, 0xbe, 0x6e, 0x26, 0x9d, 0xcb,
     0xf9, 0xbd, 0x2e, 0xd9,
@@ -149,7 +150,7 @@ impl fmt::Debug for QuicSecret {
 }
 
 impl QuicSecret {
-    /// Creates a secret of a version from one that TLS gives.
+    /// Creates a QUIC secret from a version and a traffic secret of TLS.
     pub fn new(version: Version, secret: Secret) -> Self
         ensures { result ≡ record { version = version; secret = secret } }
     {
@@ -165,7 +166,7 @@ impl QuicSecret {
         ensures refused { IsOkUnless result DerivationError.ConnectionIdLength }
         ensures made { IfOk result (λ s. s ≡ client_initial_secret version id.now) }
     {
-        initial_secret(version, id, b"client in")
+        endpoint_secret(version, id, b"client in")
     }
 
     /// Creates the secret of the Initial packets that a server sends, from the Destination Connection ID of the client's
@@ -177,7 +178,7 @@ impl QuicSecret {
         ensures refused { IsOkUnless result DerivationError.ConnectionIdLength }
         ensures made { IfOk result (λ s. s ≡ server_initial_secret version id.now) }
     {
-        initial_secret(version, id, b"server in")
+        endpoint_secret(version, id, b"server in")
     }
 
     /// Returns the secret's version.
@@ -202,8 +203,8 @@ impl QuicSecret {
         self.secret.as_slice()
     }
 
-    /// Returns the keys, by the labels `quic key`, `quic iv` and `quic hp` of version 1 (RFC 9001 section 5.1), or `quicv2 key`,
-    /// `quicv2 iv` and `quicv2 hp` of version 2 (RFC 9369 section 3.3.2).
+    /// Returns all keys of the secret, by the labels `quic key`, `quic iv` and `quic hp` of version 1 (RFC 9001 section 5.1), or
+    /// `quicv2 key`, `quicv2 iv` and `quicv2 hp` of version 2 (RFC 9369 section 3.3.2).
     pub fn keys(&self) -> QuicKeys
         ensures key { result.key ≡ quic_key self.now }
         ensures iv { result.iv ≡ quic_iv self.now }
@@ -218,8 +219,8 @@ impl QuicSecret {
         }
     }
 
-    /// Returns the key and the IV of payloads, by the first two of these labels. After a key update, they are all that changes
-    /// (RFC 9001 section 6.1).
+    /// Returns the key and the IV for payloads, by the labels `quic key` and `quic iv`, or `quicv2 key` and `quicv2 iv`. A key
+    /// update changes these two and no other key (RFC 9001 section 6.1).
     pub fn packet_keys(&self) -> PacketKeys
         ensures key { result.key ≡ quic_key self.now }
         ensures iv { result.iv ≡ quic_iv self.now }
@@ -228,15 +229,15 @@ impl QuicSecret {
         let version = self.version;
         match &self.secret.inner {
             SecretBytes::Sha256(bytes) => {
-                packet_keys(&Expander::<Sha256>::new(bytes), version, Suite::Aes128Gcm)
+                derive_packet_keys(&Expander::<Sha256>::new(bytes), version, Suite::Aes128Gcm)
             }
             SecretBytes::Sha384(bytes) => {
-                packet_keys(&Expander::<Sha384>::new(bytes), version, Suite::Aes256Gcm)
+                derive_packet_keys(&Expander::<Sha384>::new(bytes), version, Suite::Aes256Gcm)
             }
         }
     }
 
-    /// Returns the key that masks headers, by the last of these labels.
+    /// Returns the key that masks headers, by the label `quic hp` or `quicv2 hp`.
     pub fn header_key(&self) -> HeaderKeyBytes
         ensures key { result ≡ quic_header_key self.now }
         ensures len { length result ≡ suite_key_len self.now.secret.suite }
@@ -244,10 +245,10 @@ impl QuicSecret {
         let version = self.version;
         match &self.secret.inner {
             SecretBytes::Sha256(bytes) => {
-                header_key(&Expander::<Sha256>::new(bytes), version, Suite::Aes128Gcm)
+                derive_header_key(&Expander::<Sha256>::new(bytes), version, Suite::Aes128Gcm)
             }
             SecretBytes::Sha384(bytes) => {
-                header_key(&Expander::<Sha384>::new(bytes), version, Suite::Aes256Gcm)
+                derive_header_key(&Expander::<Sha384>::new(bytes), version, Suite::Aes256Gcm)
             }
         }
     }
@@ -264,7 +265,7 @@ impl QuicSecret {
     }
 }
 
-/// Returns the keys for a suite, by one key of HMAC.
+/// Returns all keys of a secret, as long as the suite's keys, from one HMAC key.
 fn derive_keys<H: Hash>(version: Version, secret: &[u8], suite: Suite) -> QuicKeys
     ensures key { result.key ≡ hkdf_expand_label H.function secret.now (key_label version) [] (suite_key_len suite) }
     ensures iv { result.iv ≡ hkdf_expand_label H.function secret.now (iv_label version) [] 12 }
@@ -274,8 +275,8 @@ fn derive_keys<H: Hash>(version: Version, secret: &[u8], suite: Suite) -> QuicKe
     ensures header_key_len { length result.header_key ≡ suite_key_len suite }
 {
     let from = Expander::<H>::new(secret);
-    let PacketKeys { key, iv } = packet_keys(&from, version, suite);
-    let header_key = header_key(&from, version, suite);
+    let PacketKeys { key, iv } = derive_packet_keys(&from, version, suite);
+    let header_key = derive_header_key(&from, version, suite);
     QuicKeys {
         key,
         iv,
@@ -283,8 +284,8 @@ fn derive_keys<H: Hash>(version: Version, secret: &[u8], suite: Suite) -> QuicKe
     }
 }
 
-/// Returns the key and the IV of payloads for a suite.
-fn packet_keys<H: Hash>(from: &Expander<H>, version: Version, suite: Suite) -> PacketKeys
+/// Returns the key and the IV for payloads of the expander's secret. The key is as long as the suite's keys.
+fn derive_packet_keys<H: Hash>(from: &Expander<H>, version: Version, suite: Suite) -> PacketKeys
     ensures key { (secret : List ℕ) → IsExpander H.function H.holds secret from.now
         → result.key ≡ hkdf_expand_label H.function secret (key_label version) [] (suite_key_len suite) }
     ensures iv { (secret : List ℕ) → IsExpander H.function H.holds secret from.now
@@ -299,8 +300,8 @@ fn packet_keys<H: Hash>(from: &Expander<H>, version: Version, suite: Suite) -> P
     }
 }
 
-/// Returns the key that masks headers for a suite.
-fn header_key<H: Hash>(from: &Expander<H>, version: Version, suite: Suite) -> HeaderKeyBytes
+/// Returns the key that masks headers of the expander's secret, as long as the suite's keys.
+fn derive_header_key<H: Hash>(from: &Expander<H>, version: Version, suite: Suite) -> HeaderKeyBytes
     ensures key { (secret : List ℕ) → IsExpander H.function H.holds secret from.now
         → result ≡ hkdf_expand_label H.function secret (header_key_label version) [] (suite_key_len suite) }
     ensures len { length result ≡ suite_key_len suite }
@@ -310,8 +311,8 @@ fn header_key<H: Hash>(from: &Expander<H>, version: Version, suite: Suite) -> He
     }
 }
 
-/// The secret of an endpoint by its label.
-fn initial_secret(version: Version, id: &[u8], label: &[u8]) -> Result<QuicSecret, DerivationError>
+/// Returns the Initial secret of an endpoint, whose label is `client in` or `server in` (RFC 9001 section 5.2).
+fn endpoint_secret(version: Version, id: &[u8], label: &[u8]) -> Result<QuicSecret, DerivationError>
     requires { length label.now ≤ 249 }
     ensures accepted { IsOk result ↔ (length id.now ≤ 20) }
     ensures refused { IsOkUnless result DerivationError.ConnectionIdLength }

@@ -1,4 +1,4 @@
-//! Secrets of TLS 1.3, and the keys of records that they give (RFC 8446 sections 7.2 and 7.3).
+//! Traffic secrets of TLS 1.3, and the record keys that are derived from them (RFC 8446 sections 7.2 and 7.3).
 
 ghost use Rattle.std.specs.Prelude.{◌≡◌, ◌*◌, ◌<◌, ◌≤◌, ◌↔◌, [], codes, length, IsOk, IfOk, IsErrOf, IsOkUnless, OnErr, OnOk};
 ghost use Rattle.key_derivation.specs.Hkdf.{IsLabel, hkdf_expand, hkdf_expand_label};
@@ -21,8 +21,8 @@ pub(crate) enum SecretBytes {
     Sha384([u8; 48]),
 }
 
-/// A secret of one direction of a connection of TLS 1.3, which gives the keys of this direction and the next secret. A
-/// `QuicSecret` gives the keys of QUIC.
+/// A traffic secret of one direction of a TLS 1.3 connection, from which the record keys of this direction and the next secret
+/// are derived. `QuicSecret` derives the keys of QUIC.
 #[derive(Drop)]
 pub struct Secret {
     pub(crate) inner: SecretBytes,
@@ -145,7 +145,7 @@ impl Secret {
         }
     }
 
-    /// Returns the key of TLS 1.3's records, by the labels `key` and `iv` (RFC 8446 section 7.3).
+    /// Returns the key and the IV for records of TLS 1.3, by the labels `key` and `iv` (RFC 8446 section 7.3).
     pub fn record_keys(&self) -> RecordKeys
         ensures key { result.key ≡ record_key self.now }
         ensures iv { result.iv ≡ record_iv self.now }
@@ -164,7 +164,7 @@ impl Secret {
         self.next(b"traffic upd")
     }
 
-    /// Returns the next secret by its label.
+    /// Returns the next secret, by the label of TLS or of a QUIC version.
     pub(crate) fn next(&self, label: &[u8]) -> Self
         requires { length label.now ≤ 249 }
         ensures { result ≡ next_secret self.now label.now }
@@ -180,7 +180,7 @@ impl Secret {
     }
 }
 
-/// Returns the key of records for a suite, by one key of HMAC.
+/// Returns the key and the IV for records, from one HMAC key. The key is as long as the suite's keys.
 fn derive_record_keys<H: Hash>(secret: &[u8], suite: Suite) -> RecordKeys
     ensures key { result.key ≡ hkdf_expand_label H.function secret.now (codes "key") [] (suite_key_len suite) }
     ensures iv { result.iv ≡ hkdf_expand_label H.function secret.now (codes "iv") [] 12 }

@@ -5,13 +5,13 @@ use Rattle.key_derivation.specs.Hash.{HashFunction}
 use Rattle.key_derivation.specs.Hmac.{block_key, short_key}
 use Rattle.key_derivation.proofs.hmac.key_block.Goals as goal
 
--- the front of zeros after a text
+-- a short text and more zeros than needed, cut to b bytes
 cut : (short zeros filling rest : List ℕ) (b : ℕ) → zeros ≡ filling ++ rest → length (short ++ filling) ≡ b
     → take b (short ++ zeros) ≡ short ++ filling
 cut short zeros filling rest b e long =
     ap (λ z. take b (short ++ z)) e ∙ ap (take b) (sym (append_assoc short filling rest)) ∙ take_at (short ++ filling) rest b long
 
--- zeros, cut in two
+-- the zeros from n on are those up to b and those after b
 zeros : (b n room : ℕ) → n ≤ b → b ≤ room → drop n (replicate {A = ℕ} room 0) ≡ replicate (b - n) 0 ++ replicate (room - b) 0
 zeros b n room fits within =
     let count : room - n ≡ b - n + (room - b) = omega arith in
