@@ -1,4 +1,4 @@
--- The packets of a datagram.
+-- The parts of a packet lie within its datagram, and a variable-length integer is read from its bytes.
 use Rattle.std.proofs.Common.{◌≡◌, ℕ, suc, ◌+◌, ◌-◌, ◌*◌, ◌/◌, ◌%◌, ◌^◌, ◌<◌, ◌≤◌, List, get_or, take, drop, sym, ap, ap₂, subst, ◌∙◌, arith, mul_comm, pow-suc}
 use Rattle.std.proofs.Math.Nat.{pow-le-pow_right}
 use Rattle.std.proofs.lemmas.Nat.{one_shl, pow_pos}
@@ -6,7 +6,7 @@ use Rattle.std.proofs.lemmas.Bool.{cond_both, ltb-false}
 use Rattle.std.specs.Int.Digits.{number_from_digits}
 use Rattle.std.specs.Prelude.{Err, IfOk, IfSome, IsErrOf, None, Ok, Option, Result, Some, false, length, nat_lt, slice_index, ◌==◌}
 use Rattle.std.specs.declared.ops.Range.{Range}
-use Rattle.quic_packets.specs.Datagram.{IsIn, IsPlaced, has_long_id, initial_token, known_layout, long_packet, numbered_layout, opaque_layout, parts_of, short_layout, source_end, span, typed_layout, varint, version_of, versioned_layout, whole, with_fixed_bit}
+use Rattle.quic_packets.specs.Datagram.{IsIn, IsPlaced, check_fixed_bit, has_long_id, initial_token, known_layout, long_packet, numbered_layout, opaque_layout, parts_of, short_layout, source_end, span, typed_layout, varint, version_of, versioned_layout, whole}
 use Rattle.quic_packets.specs.declared.datagram.DatagramError.{DatagramError}
 use Rattle.quic_packets.specs.declared.datagram.PacketType.{PacketType}
 use Rattle.quic_packets.specs.declared.datagram.PacketType.TheVariants.{Initial, Retry, VersionNegotiation, OtherVersion}
@@ -24,7 +24,7 @@ power_below i j le = pow-le-pow_right {n = 256} (omega arith) {i = i} {j = j} le
 pub power_next : (i : ℕ) → 256 ^ (i + 1) ≡ 256 * 256 ^ i
 power_next i = let more : i + 1 ≡ suc i = omega arith in ap (λ k. 256 ^ k) more ∙ pow-suc 256 i ∙ mul_comm (256 ^ i) 256
 
--- the length that the first byte of a variable-length integer gives
+-- The length that the first byte of a variable-length integer gives is 1, 2, 4 or 8 bytes.
 pub record Few (l b : ℕ) : Type 0 where
   pub is : l ≡ 2 ^ (b / 64)
   pub some : 0 < l
@@ -56,7 +56,7 @@ varint_read d at l n few e =
 abbrev Placed : ℕ → List ℕ → Result Packet DatagramError → Type 0
 Placed start d read = IfOk read (IsPlaced start d)
 
--- a layout, whether or not it ends within the datagram
+-- The places of a layout, which may end past the datagram.
 record IsLaid (start : ℕ) (p : Packet) : Type 0 where
   begins : p.start ≡ start
   some : p.start < p.end
@@ -101,9 +101,9 @@ packet_placed id_len d start =
 pub read_placed : (id_len : ℕ) (d : List ℕ) (start : ℕ) (p : Packet) → Ok p ≡ parts_of id_len d start → IsPlaced start d p
 read_placed id_len d start p same = subst (Placed start d) (sym same) (packet_placed id_len d start)
 
--- a packet that is rejected if its fixed bit is 0 and must be 1
+-- The check of the fixed bit keeps what is known of the packet.
 module _ (fixed_bit : FixedBit) (start : ℕ) (d : List ℕ) (p : Packet) (read : Result Packet DatagramError) (placed : IsPlaced start d p)
-    (is : read ≡ with_fixed_bit fixed_bit (slice_index d p.start) (Ok p)) where
+    (is : read ≡ check_fixed_bit fixed_bit (slice_index d p.start) (Ok p)) where
   cases : (P : Result Packet DatagramError → Type 0) → P (Err (NoFixedBit p.end))
       → (lacks_fixed_bit fixed_bit p.version (slice_index d p.start) ≡ false → P (Ok p)) → P read
   cases P lacking passed =
@@ -124,7 +124,7 @@ module _ (fixed_bit : FixedBit) (start : ℕ) (d : List ℕ) (p : Packet) (read 
       (λ is. (let same : p.end ≡ end = cc in (omega (arith, same, placed.begins, placed.some), omega (arith, same, placed.within))))
       (λ none is. absurd cc)
 
-  pub of_parts : (parts : Result Packet DatagramError) → Ok p ≡ parts → read ≡ with_fixed_bit fixed_bit (slice_index d start) parts
+  pub of_parts : (parts : Result Packet DatagramError) → Ok p ≡ parts → read ≡ check_fixed_bit fixed_bit (slice_index d start) parts
   of_parts parts same =
-      is ∙ ap (λ s. with_fixed_bit fixed_bit (slice_index d s) (Ok p)) placed.begins
-      ∙ ap (with_fixed_bit fixed_bit (slice_index d start)) same
+      is ∙ ap (λ s. check_fixed_bit fixed_bit (slice_index d s) (Ok p)) placed.begins
+      ∙ ap (check_fixed_bit fixed_bit (slice_index d start)) same

@@ -1,10 +1,10 @@
--- Fields that are written one after another.
+-- Writing fields into a buffer one after another writes them as one field.
 use Rattle.std.proofs.Common.{◌≡◌, ℕ, zero, suc, refl, ◌+◌, ◌≤◌, List, ◌++◌, length, take, drop, sym, ap, ◌∙◌, arith, append_assoc, drop_at, length-append, length-take-le, take_at, zero-add}
 use Rattle.std.proofs.lemmas.List.{drop-drop}
 use Rattle.std.specs.Int.{bytes_high_first}
 use Rattle.quic_packets.specs.HeaderBytes.{with_field}
 
--- two fields are one
+-- Two adjacent fields that are written are one.
 pub both : (at next : ℕ) (xs ys buffer : List ℕ) → at ≤ length buffer → next ≡ at + length xs
     → with_field next ys (with_field at xs buffer) ≡ with_field at (xs ++ ys) buffer
 both at next xs ys buffer within is =

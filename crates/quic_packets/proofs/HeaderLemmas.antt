@@ -14,7 +14,7 @@ no_form_bit : (long : Bool) (m : ℕ) → bit_and (cond long (bit_and m 0x0f) (b
 no_form_bit true m = and_assoc 0x80 m 0x0f ∙ and_zero_r m
 no_form_bit false m = and_assoc 0x80 m 0x1f ∙ and_zero_r m
 
--- masked, the first byte has the same form, and so the same mask
+-- A masked first byte has the same form, and so the same mask.
 pub same_form_masked : (first m : ℕ) → bit_and (bit_xor first (first_mask first m)) 0x80 ≡ bit_and first 0x80
 same_form_masked first m = and_xor_apart 0x80 first (first_mask first m) (no_form_bit (eqb (bit_and first 0x80) 0x80) m)
 
@@ -88,7 +88,7 @@ unprotected_back key at packet wire back h p u =
     subst (λ k. Masked (mask_of key at packet) at k wire back) (ap number_len first) v in
     masked_twice (mask_of key at packet) at n packet wire back p w
 
--- and so does writing the masked bytes back
+-- Writing the masked bytes back also undoes unmasking.
 module _ (key : HeaderKey) (at : ℕ) (wire packet back bytes : List ℕ) (u : Unprotected key at wire packet) (kept : HasMaskedBytes bytes at wire)
     (written : HasMaskedBytes bytes at back)
     (others : (i : ℕ) → 0 < i → (i < at) ⊎ (at + 4 ≤ i) → get_or back i 0 ≡ get_or packet i 0) where

@@ -1,10 +1,10 @@
--- The parts of a packet depend on the bytes from its first one on alone.
+-- The parts of a packet depend only on the bytes from its first one on.
 use Rattle.std.proofs.Common.{◌≡◌, ℕ, ◌+◌, ◌-◌, ◌*◌, ◌/◌, ◌%◌, ◌^◌, ◌≤◌, List, length, get_or, take, drop, sym, ap, ap₂, refl, ◌∙◌, arith, length-drop}
 use Rattle.std.proofs.lemmas.List.{ext_get_or, get_or-drop}
 use Rattle.std.specs.Int.Digits.{number_from_digits}
 use Rattle.std.specs.Prelude.{Option, Some, None, slice_range}
 use Rattle.std.specs.declared.ops.Range.{Range}
-use Rattle.quic_packets.specs.Datagram.{destination_end, has_long_id, initial_token, known_layout, numbered_layout, opaque_layout, packet_of, parts_of, source_end, span, with_fixed_bit, typed_layout, varint, varint_end, version_of, versioned_layout}
+use Rattle.quic_packets.specs.Datagram.{check_fixed_bit, destination_end, has_long_id, initial_token, known_layout, numbered_layout, opaque_layout, packet_of, parts_of, source_end, span, typed_layout, varint, varint_end, version_of, versioned_layout}
 use Rattle.quic_packets.specs.declared.datagram.PacketType.{PacketType}
 use Rattle.quic_packets.specs.declared.fixed_bit.FixedBit.{FixedBit}
 use Rattle.quic_packets.specs.declared.datagram.PacketType.TheVariants.{Initial, Retry, VersionNegotiation, OtherVersion}
@@ -70,4 +70,4 @@ module _ (d e : List ℕ) (start : ℕ) (len : length e ≡ length d) (same : (i
   same_parts id_len = rw (long_id, versioned, same start (omega arith), len) refl
 
   pub same_packet : (fixed_bit : FixedBit) (id_len : ℕ) → packet_of fixed_bit id_len e start ≡ packet_of fixed_bit id_len d start
-  same_packet fixed_bit id_len = ap₂ (with_fixed_bit fixed_bit) (same start (omega arith)) (same_parts id_len)
+  same_packet fixed_bit id_len = ap₂ (check_fixed_bit fixed_bit) (same start (omega arith)) (same_parts id_len)

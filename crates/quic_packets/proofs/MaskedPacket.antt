@@ -1,4 +1,4 @@
--- A packet whose first byte and packet number are masked apart.
+-- A packet whose first byte and packet number are masked one after the other is masked as a whole.
 use Rattle.std.proofs
 use proofs.Common.{◌≡◌, ℕ, ◌+◌, ◌-◌, ◌<◌, ◌≤◌, ◌⊎◌, inl, inr, List, length, get_or, set, take, drop, bit_xor, length-append, length-take, length-drop, length-take-le, sym, subst, ap, ◌∙◌, arith, get_or-take, get_or-drop, get_or-set_same, get_or-set_other}
 use proofs.lemmas.Bool.{cases_lt}

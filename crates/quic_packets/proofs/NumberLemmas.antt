@@ -1,17 +1,17 @@
--- Packet numbers in few bytes.
+-- Encoding a packet number in 1 to 4 bytes, and decoding it.
 use Rattle.std.proofs.Common.{◌≡◌, ℕ, ◌+◌, ◌-◌, ◌*◌, ◌/◌, ◌%◌, ◌^◌, ◌<◌, ◌≤◌, ◌⊎◌, min, bit_and, Option, None, Some, refl, sym, ap, subst, ◌∙◌, arith}
 use Rattle.std.proofs.lemmas.Nat.{and_mask, div-add-mod', mod-mul-add, mod_below, pow_pos, pow-add, row_fits}
 use Rattle.std.proofs.Math.Nat.{add-mod_right, pow-le-pow_right}
 use Rattle.quic_packets.specs.Numbers.{HasLowBits, InWindow, IsAbove, IsDecoded, Represents, expected, unacknowledged}
 use Rattle.quic_packets.specs.Packet.{IsNumber}
 
--- no fewer bytes represent a range that one byte less doesn't
+-- If one byte less doesn't represent a range, no fewer bytes do.
 pub fewest : (m k range : ℕ) → 2 ^ (8 * m) ≤ range → range < 2 ^ (8 * k) → m < k
 fewest m k range long short =
     let more : k ≤ m → 2 ^ (8 * k) ≤ 2 ^ (8 * m) = λ le. pow-le-pow_right {n = 2} (omega arith) (omega arith) in
     grind arith
 
--- two numbers with the same rest are a window or more apart, or the same
+-- Two numbers with the same remainder are equal, or at least a window apart.
 pub apart : (w a b : ℕ) → a % w ≡ b % w → (a + w ≤ b) ⊎ ((a ≡ b) ⊎ (b + w ≤ a))
 apart w a b same =
     let l : a / w * w + a % w ≡ a = div-add-mod' a w in
@@ -24,7 +24,7 @@ half_twice n h =
     let even : 2 ^ (8 * n) ≡ 2 * 2 ^ (8 * n - 1) = sym (ap (λ (v : ℕ). 2 ^ v) sum) ∙ pow-add 2 1 (8 * n - 1) in
     omega arith
 
--- a number has the rest t where it is one from `low` on and its distance from there the rest of t less `low`
+-- For t < w and low ≤ k w: (low + (t + (k w - low)) mod w) mod w = t.
 rest_of : (w k t low : ℕ) → t < w → low ≤ k * w → (low + (t + (k * w - low)) % w) % w ≡ t
 rest_of w k t low lt le =
     let b = t + (k * w - low) in
@@ -52,7 +52,7 @@ nearest_of n e t low some few is lt start =
       higher = λ other has tie. omega (arith, apart w other (low + b % w) (has.low_bits ∙ sym rest));
     })
 
--- what is decoded of a number's low bits in the window is the number
+-- A number in the window is decoded from its low bits.
 pub back : (n e number found : ℕ) → InWindow e n number → IsNumber number → IsDecoded e (number % 2 ^ (8 * n)) n found → found ≡ number
 back n e number found in_window is it =
     let w = 2 ^ (8 * n) in
@@ -61,7 +61,7 @@ back n e number found in_window is it =
     let high = it.higher number has in
     omega (arith, apart w found number it.has.low_bits)
 
--- and what is decoded right, away from the first and last numbers, lies in it
+-- Conversely, a number that is decoded correctly lies in the window, away from the first and the last numbers.
 pub window : (n e number found : ℕ) → IsNumber number → IsDecoded e (number % 2 ^ (8 * n)) n found → 2 ^ (8 * n) ≤ number
     → IsNumber (number + 2 ^ (8 * n)) → found ≡ number → InWindow e n number
 window n e number found is it from end same =

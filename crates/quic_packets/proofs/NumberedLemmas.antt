@@ -17,7 +17,7 @@ use Rattle.quic_packets.proofs.NumberBytes.{length-low_bytes}
 abbrev phase_bit : Bool → ℕ
 phase_bit phase = cond phase 0x04 0
 
--- a first byte but for the two bits of the number's length
+-- The first byte without the two bits of the number's length.
 abbrev upper : Bool → Bool → ℕ → ℕ
 upper long phase first = cond long (bit_and first 0xf0) (bit_or (bit_and first 0xe0) (phase_bit phase))
 
@@ -27,7 +27,7 @@ whole_byte : (long phase : Bool) (low first : ℕ)
 whole_byte true phase low first = refl
 whole_byte false phase low first = refl
 
--- the bits of a short header but for that of the key phase
+-- The bits of a short header's first byte without that of the key phase.
 short_part : (phase : Bool) (first m : ℕ) → bit_and 0x04 m ≡ 0 → bit_and 0 m ≡ 0
     → bit_and (upper false phase first) m ≡ bit_and first (bit_and 0xe0 m)
 short_part true first m four none = and_or_apart m (bit_and first 0xe0) 0x04 four ∙ and_assoc m first 0xe0
@@ -55,7 +55,7 @@ number_len_of phase n first some few =
     ∙ ap (λ v. v + 1) (and_or_apart 3 (n - 1) (upper long phase first) (no_low long phase first) ∙ and_mask (n - 1) 2)
     ∙ omega arith
 
--- the form stays
+-- The header form stays.
 form_bit : (long phase : Bool) (first : ℕ) → bit_and (upper long phase first) 0x80 ≡ bit_and first 0x80
 form_bit true phase first = and_assoc 0x80 first 0xf0
 form_bit false phase first = short_part phase first 0x80 refl refl
@@ -101,7 +101,7 @@ unfolding low_bytes
 low_is n number all few size is =
     take_all (8 - (8 - n)) (drop (8 - n) all) (omega (arith, length-drop (8 - n) all, size)) ∙ ap (drop (8 - n)) is
 
--- a packet whose number is written in place, and then its first byte
+-- A packet into which the number is written, and then the first byte.
 pub written : (first number start end : ℕ) (packet low : List ℕ) → low ≡ low_bytes (end - start) number → start < end
     → set (put_mid start (end - start) packet low) 0 first
     ≡ set (take start packet ++ (low_bytes (end - start) number ++ drop end packet)) 0 first
@@ -110,7 +110,7 @@ written first number start end packet low is some =
     drop-drop (end - start) start packet ∙ ap (λ k. drop k packet) (omega arith) in
     rw (rest, is) refl
 
--- what a packet with a number has
+-- What holds for a packet with its number written.
 pub record IsNumbered (phase : Bool) (number start end : ℕ) (packet whole : List ℕ) : Type 0 where
   pub len : length whole ≡ length packet
   pub first : get_or whole 0 0 ≡ first_byte phase (end - start) (get_or packet 0 0)

@@ -1,4 +1,4 @@
--- What becomes of a packet that is sent: for the state of a connection, as for that of one of its levels.
+-- The outcome of sending a packet at a level is also one for the connection that has the level.
 use Rattle.std.proofs.Common.{◌≡◌, ℕ, Bool, List, Option, None, Some, Ok, Err, Result, OnOk, OnErr, ap}
 use Rattle.quic_packets.specs.Ends.{EndOutcome}
 use Rattle.quic_packets.specs.Sending.{Sender}
@@ -16,13 +16,13 @@ kept : {A B : Type 0} (f : A → B) (result : Result SentPacket SendError) (old 
 kept f (Ok p) old new before now is = tt
 kept f (Err e) old new before now is = (is.0, ap f is.1)
 
--- an outcome for a state is one for what is made of the state
-pub within : {A B : Type 0} (f : A → B) (sender : Option Sender) (kept_back : ℕ) (fixed_bit : FixedBit) (start end : ℕ)
+-- If an outcome holds for a state, it holds for what a function makes of the state.
+pub within : {A B : Type 0} (f : A → B) (sender : Option Sender) (kept_for_close : ℕ) (fixed_bit : FixedBit) (start end : ℕ)
     (old new : List ℕ) (result : Result SentPacket SendError) (follows : Sender → Bool) (before now : A) (after : Sender → A)
-    → EndOutcome sender kept_back fixed_bit start end old new result follows before now after
-    → EndOutcome sender kept_back fixed_bit start end old new result follows (f before) (f now) (λ s. f (after s))
-within f None kept_back fixed_bit start end old new result follows before now after is = (is.0, is.1, ap f is.2)
-within f (Some s) kept_back fixed_bit start end old new result follows before now after is = record {
+    → EndOutcome sender kept_for_close fixed_bit start end old new result follows before now after
+    → EndOutcome sender kept_for_close fixed_bit start end old new result follows (f before) (f now) (λ s. f (after s))
+within f None kept_for_close fixed_bit start end old new result follows before now after is = (is.0, is.1, ap f is.2)
+within f (Some s) kept_for_close fixed_bit start end old new result follows before now after is = record {
   accepted = is.accepted;
   refused = is.refused;
   sent = is.sent;

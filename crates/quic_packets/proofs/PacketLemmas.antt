@@ -1,4 +1,4 @@
--- Opening undoes sealing, also of a packet whose header was masked and unmasked in between.
+-- Opening undoes sealing, even if the header was masked and unmasked in between.
 use Rattle.std.proofs.Common.{◌≡◌, ℕ, ◌+◌, ◌-◌, ◌<◌, List, ◌++◌, length, get_or, take, drop, sym, ap, ap₂, subst, ◌∙◌, length-append, length-drop, arith, drop_at, get_or-take, length-take-le, take_at}
 use Rattle.std.proofs.Math.Seq.{take-add}
 use Rattle.aead_ciphers_base.specs.Aes.{aes}
@@ -60,7 +60,7 @@ module _ (receiver : PacketKey) (number h : ℕ) (packet : List ℕ) (has : Pack
       length-append (take h packet) (body ++ its_tag)
       ∙ omega (arith, length-header, ap length behind, length-behind, length-aes_encrypted key nonce text, length-text, has.room)
 
-  -- what stands before the last 16 bytes: a header, and what stands after it
+  -- The bytes before the last 16 are a header and the bytes after it.
   before_tag : (xs : List ℕ) → take (length packet - 16) xs ≡ take h xs ++ take (length packet - 16 - h) (drop h xs)
   before_tag xs = ap (λ n. take n xs) (omega (arith, has.room)) ∙ take-add h (length packet - 16 - h) xs
 
@@ -83,7 +83,7 @@ module _ (receiver : PacketKey) (number h : ℕ) (packet : List ℕ) (has : Pack
       sym (get_or-take h whole 0 0 some) ∙ ap (λ xs. get_or xs 0 0) front ∙ get_or-take h packet 0 0 some in
       record { first_byte = has_number.first_byte; len = has_number.len ∙ ap (λ b. at + number_len b) (sym first) }
 
-  -- the header, unmasked again
+  -- The header is unmasked again.
   pub same_front : (header_key : HeaderKey) (at : ℕ) (wire back : List ℕ) → HasSample at (length packet) → Protected header_key at whole wire
       → Unprotected header_key at wire back → take h back ≡ take h packet
   same_front header_key at wire back has_sample p u =

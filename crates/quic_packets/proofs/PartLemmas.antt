@@ -1,4 +1,4 @@
--- A part of a datagram that is written in place.
+-- A part of a datagram is written in place, and the bytes outside it stay.
 use Rattle.std.proofs.Common.{◌≡◌, ℕ, ◌+◌, ◌-◌, ◌≤◌, ◌++◌, inl, inr, List, length, get_or, take, drop, sym, ap, ◌∙◌, arith, get_or-take, length-drop, length-take-le, Ok, Err, Result, IfErr}
 use Rattle.std.proofs.lemmas.List.{get_or-drop, take-append-drop}
 use Rattle.std.proofs.lemmas.Slice.{between-put_mid, drop-put_mid, take-put_mid_below}
@@ -34,7 +34,7 @@ put_back : (start n : ℕ) (old : List ℕ) → put_mid start n old (take n (dro
 put_back start n old =
     ap (λ (xs : List ℕ). take start old ++ xs) (take-append-drop n (drop start old)) ∙ take-append-drop start old
 
--- an error that leaves the part leaves the whole
+-- If an error leaves the part as it was, it leaves the whole as it was.
 pub kept : {T E : Type 0} (P : E → Type 0) (start n : ℕ) (old part : List ℕ) (result : Result T E)
     → IfErr result (λ e. P e → part ≡ take n (drop start old)) → IfErr result (λ e. P e → put_mid start n old part ≡ old)
 kept P start n old part (Ok x) same = tt

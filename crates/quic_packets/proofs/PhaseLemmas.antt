@@ -1,4 +1,5 @@
--- The numbers that a sender counts acknowledgments of: each was sent in the current key phase. And the first number of the phase.
+-- The numbers whose acknowledgment a sender counts for a key update: each was sent in the current key phase, which begins with
+-- the first number of the phase.
 use Rattle.std.proofs.Common.{◌≡◌, ℕ, suc, ◌+◌, ◌<◌, ◌≤◌, inl, inr, true, false, List, ◌∷◌, get_or, refl, subst, arith}
 use Rattle.std.proofs.lemmas.Bool.{cases_lt, le-ltb, leb-false, leb-true, lt-leb, lt-ltb, or_from, or_parts}
 use Rattle.std.proofs.lemmas.List.Elements.{All-cons, All-contains, All-nil, All-weaker}
@@ -17,8 +18,9 @@ Has n sent = (p : Sent) × Contains sent p × (p.number ≡ n)
 has_more : (n : ℕ) (p : Sent) (sent : List Sent) → Has n sent → Has n (p ∷ sent)
 has_more n p sent h = (h.0, (suc h.1.0, omega (arith, h.1.1), h.1.2), h.2)
 
--- The numbers from `first` up to `next` came after all key updates, and each was sent unless it is skipped. No number that was
--- sent is skipped. The key phase begins at `phase`: no update is later, and each packet is from there on, or before the last update.
+-- The numbers from `first` up to `next` come after all key updates, and each of them was sent or skipped. No number that was
+-- sent is skipped. The key phase begins at `phase`: no update comes later, and each packet that was sent is at or above it, or
+-- before the last update.
 record Run (first next phase : ℕ) (gaps : List Gap) (life : Life) (sent : List Sent) : Type 0 where
   begun : All (λ u. u.first ≤ first) life.updates
   order : first ≤ next

@@ -1,9 +1,9 @@
--- What becomes of a packet that is read: it isn't opened, it is opened and not received, or it is received.
+-- The outcome of a packet that is read, in three cases: it isn't opened, it is opened and not received, or it is received.
 use Rattle.std.proofs.Common.{◌≡◌, ℕ, ◌+◌, ◌-◌, ◌<◌, ◌≤◌, ◌↔◌, true, false, inl, inr, List, length, take, drop, Ok, Err, Result, IsOk, refl, sym, ap, subst, arith, ◌∙◌}
 use borrow.Rule.Slice.PartMut.{put_mid}
 use Rattle.quic_packets.specs.Datagram.{bytes_of, number_in}
 use Rattle.quic_packets.specs.Failures.{Failures}
-use Rattle.quic_packets.specs.Receiving.{AdmitRefuses, IsAdmitted, IsReadable, Opening, Outcome, Reads, ReceiveOutcome, Receiver, failures_after, is_of_opened, received}
+use Rattle.quic_packets.specs.Receiving.{AcceptRefuses, IsAcceptable, IsReadable, Opening, Outcome, Reads, ReceiveOutcome, Receiver, failures_after, is_of_opened, received}
 use Rattle.quic_packets.specs.Space.{Marks, Space}
 use Rattle.quic_packets.specs.declared.datagram.Packet.{Packet}
 use Rattle.quic_packets.specs.declared.receive_error.ReceiveError.{ReceiveError}
@@ -11,13 +11,13 @@ use Rattle.quic_packets.specs.declared.receive_error.ReceiveError.TheVariants.{D
 use Rattle.quic_packets.specs.declared.receiver.Received.{Received}
 use Rattle.quic_packets.proofs.PartLemmas.{kept, outside, part_of}
 
--- a packet that is opened isn't counted
-opened_uncounted : (r : Receiver) (s : Space) (f : Failures) (first : ℕ) (o : Received) (e : ReceiveError) → AdmitRefuses r s first o e
+-- A packet that is opened isn't counted as a failure.
+opened_uncounted : (r : Receiver) (s : Space) (f : Failures) (first : ℕ) (o : Received) (e : ReceiveError) → AcceptRefuses r s first o e
     → f ≡ failures_after f (Err e)
 opened_uncounted r s f first o Refused why = absurd why
 opened_uncounted r s f first o e why = refl
 
-of_opened : (r : Receiver) (s : Space) (first : ℕ) (o : Received) (e : ReceiveError) → AdmitRefuses r s first o e → is_of_opened e ≡ true
+of_opened : (r : Receiver) (s : Space) (first : ℕ) (o : Received) (e : ReceiveError) → AcceptRefuses r s first o e → is_of_opened e ≡ true
 of_opened r s first o ReservedBits why = refl
 of_opened r s first o Duplicate why = refl
 of_opened r s first o KeyUpdate why = refl
@@ -47,7 +47,7 @@ module _ (r : Receiver) (s : Space) (f : Failures) (parts : Packet) (old : List 
         (subst (λ k. Outcome r s parts.start k plain number result r' part) place is),
   )
 
-  -- it isn't opened
+  -- The packet isn't opened.
   pub unopened : (e : ReceiveError) (f' : Failures) → Opening r parts.start at plain number (Err e) part
       → part ≡ take (parts.end - parts.start) (drop parts.start old) → f' ≡ failures_after f (Err e)
       → ReceiveOutcome r s f parts old (Err e) r s f' new
@@ -70,18 +70,18 @@ module _ (r : Receiver) (s : Space) (f : Failures) (parts : Packet) (old : List 
   }
 
   module _ (first : ℕ) (o : Received) (is : Opening r parts.start at plain number (Ok (first, o)) part) where
-    -- it is opened, and not received
-    pub unadmitted : (e : ReceiveError) (r' : Receiver) (s' : Space) → IsOk {T = Unit {0}} (Err e) ↔ IsAdmitted r s first o
-        → AdmitRefuses r s first o e → (r' ≡ r) × (s' ≡ s) → ReceiveOutcome r s f parts old (Err e) r' s' f new
-    unadmitted e r' s' accepted why same = record {
+    -- The packet is opened, and not received.
+    pub unaccepted : (e : ReceiveError) (r' : Receiver) (s' : Space) → IsOk {T = Unit {0}} (Err e) ↔ IsAcceptable r s first o
+        → AcceptRefuses r s first o e → (r' ≡ r) × (s' ≡ s) → ReceiveOutcome r s f parts old (Err e) r' s' f new
+    unaccepted e r' s' accepted why same = record {
       readable = tt;
       refused = inr able;
       read = λ able. read (Err e) r' (record {
         accepted = (
           λ ok. absurd cc,
-          λ it. absurd (let ok = accepted.1 (subst (λ p. IsAdmitted r s p.0 p.1) (sym is.returns) it.1) in cc),
+          λ it. absurd (let ok = accepted.1 (subst (λ p. IsAcceptable r s p.0 p.1) (sym is.returns) it.1) in cc),
         );
-        refused = inr (is.accepted.0 refl, subst (λ p. AdmitRefuses r s p.0 p.1 e) is.returns why);
+        refused = inr (is.accepted.0 refl, subst (λ p. AcceptRefuses r s p.0 p.1 e) is.returns why);
         opens = λ it. is.opens;
         returns = tt;
         moves_on = tt;
@@ -94,15 +94,15 @@ module _ (r : Receiver) (s : Space) (f : Failures) (parts : Packet) (old : List 
       outside = outside parts.start parts.end old part ordered able.within whole;
     }
 
-    -- it is received
-    pub admitted : (r' : Receiver) (s' : Space) → IsAdmitted r s first o → r' ≡ received r first o.number → Marks s o.number s'
+    -- The packet is received.
+    pub accepted_packet : (r' : Receiver) (s' : Space) → IsAcceptable r s first o → r' ≡ received r first o.number → Marks s o.number s'
         → (parts.start < o.payload.start) × (o.payload.start ≤ o.payload.end) × (o.payload.end + 16 ≡ parts.end)
         → ReceiveOutcome r s f parts old (Ok o) r' s' f new
-    admitted r' s' it moved marks payload = record {
+    accepted_packet r' s' it moved marks payload = record {
       readable = able;
       refused = tt;
       read = λ able. read (Ok o) r' (record {
-        accepted = (λ ok. (is.accepted.0 refl, subst (λ p. IsAdmitted r s p.0 p.1) is.returns it), λ d. refl);
+        accepted = (λ ok. (is.accepted.0 refl, subst (λ p. IsAcceptable r s p.0 p.1) is.returns it), λ d. refl);
         refused = tt;
         opens = λ authentic. is.opens;
         returns = ap (λ p. p.1) is.returns;

@@ -1,4 +1,4 @@
--- What a receiver reads of a packet that was sent, and what it gives back.
+-- The number and the header that a receiver reads of a packet that was sent, and the packet that it returns.
 use Rattle.std.proofs.Common.{◌≡◌, ℕ, ◌-◌, ◌<◌, List, length, get_or, take, drop, refl, sym, ap, ap₂, ◌∙◌, arith, get_or-take, unwrap_or, inl, inr, is_some, Ok, Err, IsErrOf}
 use Rattle.std.proofs.lemmas.List.{drop-take}
 use Rattle.std.specs.Int.Digits.{number_from_digits}
@@ -11,7 +11,7 @@ use Rattle.quic_packets.specs.Keys.{PacketKey}
 use Rattle.quic_packets.specs.Laws.{OpensTo}
 use Rattle.quic_packets.specs.Numbers.{InWindow}
 use Rattle.quic_packets.specs.Packet.{HasNumber, low_bytes}
-use Rattle.quic_packets.specs.Receiving.{IsAuthentic, Outcome, Reads, Receiver, header_len, opening_key, reserved_bits, IsAdmitted, ReadRefuses, of_packet}
+use Rattle.quic_packets.specs.Receiving.{IsAcceptable, IsAuthentic, Outcome, ReadRefuses, Reads, Receiver, header_len, of_packet, opening_key, reserved_bits}
 use Rattle.quic_packets.specs.Sending.{Sender}
 use Rattle.quic_packets.specs.Space.{IsNew, Space}
 use Rattle.quic_packets.specs.declared.receive_error.ReceiveError.{ReceiveError}
@@ -25,8 +25,8 @@ use Rattle.quic_packets.proofs.RefusalLemmas.{one_late}
 use Rattle.quic_packets.proofs.RunLemmas.{Takes, held}
 use Rattle.quic_packets.proofs.SentLemmas.{WasSentIn, was_sent}
 
--- What is read of a packet that was sent is what was sent: its number and its header. It is authentic, and once it is opened its
--- payload stands as it was sent.
+-- A receiver reads the number and the header with which a packet was sent. The packet is authentic, and once it is opened its
+-- payload is the one that was sent.
 module _ (sender : Sender) (life : Life) (sent : List Sent) (run : HasSent sender life sent) (r : Receiver) (own : ℕ) (p : Sent)
     (has : Contains sent p) (follows : Follows life sent r own) (holds : Holds r own life p) (same_key : r.header ≡ sender.header_key)
     (space : Space) (window : InWindow space.next (number_len (get_or p.packet 0 0)) p.number) (plain : List ℕ) (n : ℕ)
@@ -91,7 +91,7 @@ module _ (sender : Sender) (life : Life) (sent : List Sent) (run : HasSent sende
   unreserved : reserved_bits (get_or plain 0 0) ≡ 0
   unreserved = ap reserved_bits first ∙ was.unreserved
 
-  admitted : (start : ℕ) → IsNew space p.number → IsAdmitted r space (get_or plain 0 0) (of_packet start p.number_at plain n)
+  admitted : (start : ℕ) → IsNew space p.number → IsAcceptable r space (get_or plain 0 0) (of_packet start p.number_at plain n)
   admitted start new = record {
     unreserved = unreserved;
     new = rw same_number new;
@@ -99,7 +99,7 @@ module _ (sender : Sender) (life : Life) (sent : List Sent) (run : HasSent sende
     frames = omega (arith, was.payload, ends, same_len);
   }
 
-  -- what is refused is a duplicate, if its number isn't new
+  -- If the packet is refused because its number isn't new, it is a duplicate.
   duplicate : (start : ℕ) (result : Result Received ReceiveError) (r' : Receiver) (opened : List ℕ)
       → Outcome r space start p.number_at plain n result r' opened → ¬ IsNew space n → IsErrOf result Duplicate
   duplicate start (Ok packet) r' opened outcome old = absurd (old (outcome.accepted.0 refl).1.new)

@@ -3,7 +3,7 @@ use Rattle.std.proofs.Common.{◌≡◌, ℕ, inl, inr, List, arith, refl, rules
 use Rattle.std.proofs.lemmas.Grind.{common_steps}
 use Rattle.key_derivation.specs.declared.quic.Version.{Version}
 use Rattle.quic_packets.specs.Failures.{Failures}
-use Rattle.quic_packets.specs.Receiving.{EarlyRefuses, IsAdmitted, IsAuthentic, IsReadable, ReadRefuses, Receiver, of_packet}
+use Rattle.quic_packets.specs.Receiving.{EarlyRefuses, IsAcceptable, IsAuthentic, IsReadable, ReadRefuses, Receiver, of_packet}
 use Rattle.quic_packets.specs.Sending.{IsInTurn, IsSealable, NumberRefuses, PacketRefuses, Sender, SenderRefuses}
 use Rattle.quic_packets.specs.Space.{Space}
 use Rattle.quic_packets.specs.declared.datagram.Packet.{Packet}
@@ -57,7 +57,7 @@ none s fixed_bit start end packet e (inr d) is = not_in_turn s start end e d.1 i
 -- Receiving.
 
 module _ (r : Receiver) (f : Failures) (parts : Packet) (len : ℕ) where
-  -- no two reasons not to read a packet hold at once
+  -- No two reasons not to read a packet hold at once.
   pub one_early : (e e' : ReceiveError) → EarlyRefuses r f parts len e → EarlyRefuses r f parts len e' → e ≡ e'
   one_early TooManyFailures TooManyFailures d d' = refl
   one_early PastEnd PastEnd d d' = refl
@@ -71,7 +71,7 @@ module _ (r : Receiver) (f : Failures) (parts : Packet) (len : ℕ) where
   not_readable e d is = first_of (search rules, grind (arith, common_steps))
 
 module _ (r : Receiver) (s : Space) (start number_at : ℕ) (plain : List ℕ) (number : ℕ) where
-  -- no two reasons not to receive a packet that is read hold at once
+  -- No two reasons not to receive a packet that is read hold at once.
   pub one_late : (e e' : ReceiveError) → ReadRefuses r s start number_at plain number e
       → ReadRefuses r s start number_at plain number e' → e ≡ e'
   one_late TooLongError TooLongError d d' = refl
@@ -83,5 +83,5 @@ module _ (r : Receiver) (s : Space) (start number_at : ℕ) (plain : List ℕ) (
   one_late e e' d d' = absurd (first_of (search rules, grind (arith, common_steps)))
 
   pub not_received : (e : ReceiveError) → ReadRefuses r s start number_at plain number e
-      → IsAuthentic r number_at plain number × IsAdmitted r s (get_or plain 0 0) (of_packet start number_at plain number) → ⊥
+      → IsAuthentic r number_at plain number × IsAcceptable r s (get_or plain 0 0) (of_packet start number_at plain number) → ⊥
   not_received e d is = first_of (search rules, grind (arith, common_steps))

@@ -1,4 +1,4 @@
--- A Retry packet that is cut before its tag.
+-- The check of a Retry packet that is cut into header, token and tag.
 use Rattle.std.proofs.Common.{◌≡◌, ℕ, ◌+◌, ◌-◌, ◌↔◌, List, ◌++◌, length, take, drop, sym, ap, ap₂, ◌∙◌, arith, append_assoc, drop_at, length-append, length-take-le, take-append-drop, take_at}
 use Rattle.key_derivation.specs.declared.quic.Version.{Version}
 use Rattle.quic_packets.specs.Retry.{IsGenuineRetry, IsShortPseudoPacket, integrity_tag}
@@ -21,7 +21,7 @@ module _ (version : Version) (id header payload token tag : List ℕ) (k : ℕ) 
   back : drop (length (header ++ payload) - 16) (header ++ payload) ≡ tag
   back = ap (drop _) parts ∙ drop_at (header ++ token) tag _ retry_len
 
-  -- it is genuine if its tag is that of the bytes before it
+  -- The packet is genuine if its tag is that of the bytes before it.
   pub genuine : IsGenuineRetry version id (header ++ payload)
       ↔ (IsShortPseudoPacket id (header ++ token) × (tag ≡ integrity_tag version id (header ++ token)))
   genuine = (

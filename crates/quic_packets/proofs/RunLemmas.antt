@@ -1,4 +1,4 @@
--- A receiver that follows a sender holds its keys in their order.
+-- A receiver that follows a sender holds the sender's keys in their order.
 use Rattle.std.proofs.Common.{nat_lt, ◌≡◌, ◌≢◌, ℕ, zero, suc, ◌+◌, ◌<◌, ◌≤◌, ◌==◌, if◌then◌else◌, inl, inr, max, Bool, true, false, not, List, [], ◌∷◌, length, get_or, Option, None, Some, IsSome, bit_and, refl, sym, ap, subst, ◌∙◌, arith, add-one}
 use Rattle.std.proofs.lemmas.Bool.{cases_Bool, eqb-true, le-ltb, lt-ltb, ne_eqb}
 use Rattle.std.proofs.Math.Bool.{not-not}
@@ -21,7 +21,7 @@ record Phases (life : Life) (key : PacketKey) (bit : Bool) (lowest highest highe
   after_previous : (n : ℕ) → own ≤ updates_before life.updates n → highest_previous ≤ n
   after_earlier : (n : ℕ) → own ≤ updates_before life.updates n + 1 → highest_earlier ≤ n
 
--- how a receiver stands after `own` updates
+-- What holds for a receiver after `own` updates.
 record Stands (life : Life) (r : Receiver) (own : ℕ) : Type 0 where
   phases : Phases life r.current r.phase r.lowest r.highest r.highest_previous r.highest_earlier own
   next : (k : PacketKey) → r.next ≡ Some k → own < length life.updates → k ≡ key_after life.key life.updates (own + 1)
@@ -39,7 +39,7 @@ long_bit : (first : ℕ) (c : Bool) → is_long first ≡ true → (bit_and firs
 long_bit first true long = not_that first 0x00 long refl
 long_bit first false long = not_that first 0x04 long refl
 
--- a short header's Key Phase bit against a receiver's
+-- Whether a short header's Key Phase bit differs from the receiver's.
 same_bit : (first : ℕ) (b c : Bool) → HasPhase first b → b ≡ c → (bit_and first 0x84 == (if c then 0x00 else 0x04)) ≡ false
 same_bit first true true is e = ap (λ v. v == 0x00) is
 same_bit first false false is e = ap (λ v. v == 0x04) is
@@ -59,12 +59,12 @@ first_key : (key : PacketKey) (us : List Update) → key ≡ key_after key us 0
 first_key key [] = refl
 first_key key (u ∷ us) = rw (le-ltb (length us) 0 (omega arith)) (first_key key us)
 
--- what a receiver knows of a packet whose key it holds
+-- What holds for a packet whose key a receiver holds.
 pub record Takes (life : Life) (r : Receiver) (first number : ℕ) : Type 0 where
   pub key : key_of r first number ≡ Some (key_after life.key life.updates (updates_before life.updates number))
   pub later : highest_before r first number ≤ number
 
--- a packet that was sent, and whose key a receiver holds: it is the current, the next or the previous one
+-- The key of a packet that was sent and whose key a receiver holds is the current, the next or the previous one.
 module _ (sender : Sender) (life : Life) (sent : List Sent) (run : HasSent sender life sent) (r : Receiver) (own : ℕ) (p : Sent)
     (has : Contains sent p) (s : Stands life r own) where
   abbrev first : ℕ

@@ -1,4 +1,5 @@
--- A sender and a receiver that are made of one secret hold the keys of the same secret after as many key updates.
+-- A sender and a receiver that are created from one secret hold the keys of the same secret after the same number of key
+-- updates.
 use Rattle.std.proofs.Common.{◌≡◌, ℕ, ◌+◌, is_some, Option, None, Some, refl, sym, ap, ◌∙◌, add-one}
 use Rattle.key_derivation.specs.Quic.{QuicSecretState, next_quic_secret}
 use Rattle.quic_packets.specs.Keys.{PacketKey, secret_header_key, secret_key}
@@ -6,14 +7,14 @@ use Rattle.quic_packets.specs.Receiving.{Receiver, with_next}
 use Rattle.quic_packets.specs.Secrets.{ReceiverOf, SenderOf, begins, others, secret_after, takes_next, updates}
 use Rattle.quic_packets.specs.Sending.{Sender}
 
--- the secret that is held after n updates, and the one after it
+-- The secret that is held after n updates, and the one after it.
 held_is : (secret held : QuicSecretState) (n : ℕ) (o : Option QuicSecretState) → o ≡ Some held → o ≡ Some (secret_after secret n)
     → next_quic_secret held ≡ secret_after secret (n + 1)
 held_is secret held n o is stands =
     let same : held ≡ secret_after secret n = cc in
     ap next_quic_secret same ∙ sym (ap (secret_after secret) (add-one n))
 
--- how a sender stands after n updates
+-- What holds for a sender after n updates.
 record Sends (secret : QuicSecretState) (s : Sender) (n : ℕ) : Type 0 where
   version : s.version ≡ secret.version
   key : s.key ≡ secret_key (secret_after secret n)
@@ -35,7 +36,7 @@ sends secret t n (others x s u m version key header_key held of) =
       held = held ∙ before.held;
     }
 
--- how a receiver stands after n updates
+-- What holds for a receiver after n updates.
 record Receives (secret : QuicSecretState) (r : Receiver) (n : ℕ) : Type 0 where
   version : r.version ≡ secret.version
   header : r.header ≡ secret_header_key secret

@@ -1,4 +1,5 @@
--- What a sender seals under over every run: numbers that rise, and under each key at most as many as its limit.
+-- The numbers under which a sender seals over every run: they increase, and under each key there are at most as many as its
+-- limit.
 use Rattle.std.proofs.Common.{ℕ, zero, suc, ◌+◌, ◌-◌, ◌<◌, ◌≤◌, min, List, [], ◌∷◌, length, get_or, arith}
 use Rattle.std.proofs.lemmas.List.Elements.{All-cons}
 use Rattle.std.proofs.lemmas.List.Kept.{AllPairs-cons}
@@ -8,7 +9,7 @@ use Rattle.quic_packets.specs.Sending.{Runs, Sender, after_acknowledgement, afte
 abbrev all_of : List (List ℕ) → List ℕ
 all_of = flat_map (λ ns. ns)
 
--- no number is below the next one, and each is below all later ones
+-- No number is below the next one, and each is below all later ones.
 rises : (s t : Sender) (by_key : List (List ℕ)) → Runs s t by_key
     → All (λ n. s.next ≤ n) (all_of by_key) × AllPairs (λ m n. m < n) (all_of by_key)
 rises s t by_key (none x) = (λ i d lt. absurd (omega arith), λ i j d lt within. absurd (omega arith))
@@ -28,7 +29,7 @@ rises s t by_key (goes_on x y ks version key hk secret rest) = rises (with_insta
 pub fresh : (s t : Sender) (by_key : List (List ℕ)) → Runs s t by_key → AllPairs (λ m n. m < n) (all_of by_key)
 fresh s t by_key run = (rises s t by_key run).1
 
--- the first list has at most so many numbers, and each later one at most as many as the limit
+-- The first list has at most this many numbers, and each later one at most as many as the limit.
 abbrev Capped : ℕ → ℕ → List (List ℕ) → Type 0
 Capped left limit [] = Unit {0}
 Capped left limit (ns ∷ later) = (length ns ≤ left) × Capped limit limit later

@@ -1,4 +1,4 @@
--- What a sender has sent: each packet carries its number and the key phase of the key that it is sealed under.
+-- Each packet that a sender has sent carries its number, and the key phase of the key under which it was sealed.
 use Rattle.std.proofs.Common.{◌≡◌, ℕ, zero, suc, ◌+◌, ◌-◌, ◌<◌, ◌≤◌, if◌then◌else◌, inl, inr, Bool, false, not, List, [], ◌∷◌, length, get_or, bit_and, refl, sym, ap, subst, ◌∙◌, arith}
 use Rattle.std.proofs.lemmas.Bool.{cases_lt, le-leb, le-ltb, lt-leb, lt-ltb}
 use Rattle.std.proofs.lemmas.List.Elements.{All-cons, All-contains, All-head, All-nil, All-tail}
@@ -15,7 +15,7 @@ use Rattle.quic_packets.specs.declared.fixed_bit.FixedBit.{FixedBit}
 use Rattle.quic_packets.specs.Sending.{IsInTurn, IsSealable, IsSent, Sender, is_long, numbered_packet}
 use Rattle.quic_packets.proofs.NumberedLemmas.{has_phase, numbered, unreserved}
 
--- the Key Phase bit after so many key updates (RFC 9001 section 6)
+-- The Key Phase bit after n key updates (RFC 9001 section 6).
 abbrev pub phase_after : ℕ → Bool
 phase_after zero = false
 phase_after (suc n) = not (phase_after n)
@@ -24,7 +24,7 @@ phase_after (suc n) = not (phase_after n)
 abbrev pub HasPhase : ℕ → Bool → Type 0
 HasPhase first phase = bit_and first 0x84 ≡ (if phase then 0x04 else 0x00)
 
--- How many updates come before a number, and the key after them.
+-- The number of updates before a packet number, and the key after them.
 
 pub before_all : (us : List Update) (n : ℕ) → All (λ u. u.first ≤ n) us → updates_before us n ≡ length us
 before_all [] n h = refl
@@ -84,13 +84,13 @@ WasSentIn header life p =
     let count = updates_before life.updates p.number in
     WasSent header (key_after life.key life.updates count) (phase_after count) p
 
--- one more update leaves the packets before it
+-- Another update changes nothing for the packets before it.
 moved : (header : HeaderKey) (key : PacketKey) (u : Update) (us : List Update) (p : Sent) → p.number < u.first
     → WasSentIn header (record { key = key; updates = us }) p → WasSentIn header (record { key = key; updates = u ∷ us }) p
 moved header key u us p lt was =
     rw (before_later u us p.number lt, key_earlier key u us (updates_before us p.number) (before-le us p.number)) was
 
--- how a sender stands
+-- What holds for a sender and the packets that it has sent.
 record Stands (header : HeaderKey) (now : PacketKey) (bit : Bool) (next : ℕ) (life : Life) (sent : List Sent) : Type 0 where
   key : key_after life.key life.updates (length life.updates) ≡ now
   phase : phase_after (length life.updates) ≡ bit
@@ -167,7 +167,7 @@ state t l ps (hears s life sent number below run) = state s life sent run
 state t l ps (confirms s life sent run) = state s life sent run
 state t l ps (lowers s life sent limit run) = state s life sent run
 
--- each packet that was sent
+-- This holds for each packet that was sent.
 pub was_sent : (s : Sender) (life : Life) (sent : List Sent) (p : Sent) → HasSent s life sent → Contains sent p
     → WasSentIn s.header_key life p
 was_sent s life sent p run has = All-contains (WasSentIn s.header_key life) sent p (state s life sent run).each has

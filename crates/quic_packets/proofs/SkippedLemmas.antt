@@ -1,4 +1,4 @@
--- The ranges of skipped numbers: which numbers they have after another skip.
+-- The ranges of skipped numbers, and which numbers are in them after another skip.
 use Rattle.std.proofs.Common.{◌≡◌, ℕ, zero, suc, ◌<◌, ◌≤◌, inl, inr, false, List, [], ◌∷◌, take, drop, refl, arith}
 use Rattle.std.proofs.lemmas.Bool.{cases_Bool, cond_both, eqb-true, or_from, or_parts}
 use Rattle.std.proofs.lemmas.Bool.Decides.{nat_tests}
@@ -6,7 +6,7 @@ use Rattle.std.specs.Prelude.{◌==◌}
 use Rattle.quic_packets.specs.Skipped.{forgotten, highest_end, is_in_gap, is_skipped, no_gaps, with_gap}
 use Rattle.quic_packets.specs.declared.skipped.Gap.{Gap}
 
--- each range begins and ends at or below a number
+-- Each range lies at or below a number.
 abbrev pub IsBelow : ℕ → List Gap → Type 0
 IsBelow top [] = Unit {0}
 IsBelow top (gap ∷ gaps) = (gap.start ≤ top) × (gap.end ≤ top) × IsBelow top gaps
@@ -66,7 +66,8 @@ below_with s e (last ∷ lower) le is =
     cond_both (last.end == s) (longer last e ∷ lower) (next_gap s e ∷ take 7 (last ∷ lower)) (IsBelow e)
     (λ same. (more.0, omega arith, more.2)) (λ other. (le, omega arith, below_take 7 e (last ∷ lower) more))
 
--- a number that is then in no range, and isn't so low that it may have been forgotten, was in none, and is below those that were skipped
+-- Take a number that is in no range after the skip, and not so low that it may have been forgotten. It was in no range before,
+-- and lies below the numbers that were skipped.
 pub unskipped : (s e n : ℕ) (gaps : List Gap) → IsBelow s gaps → n < e → forgotten gaps s ≤ n → is_skipped (with_gap gaps s e) n ≡ false
     → (n < s) × (is_skipped gaps n ≡ false)
 unskipped s e n [] is lt high free = (below_start n (next_gap s e) lt (or_parts _ false free).0, refl)
@@ -82,7 +83,7 @@ unskipped s e n (last ∷ lower) is lt high free =
           (below, joined 7 n (last ∷ lower) parts.1 (free_over n (drop 7 (last ∷ lower)) (rw other at high)))
     ]
 
--- a number below those that were skipped, which was in no range, is in none
+-- A number that was in no range and lies below the numbers that are skipped is in no range afterwards.
 pub still_free : (s e n : ℕ) (gaps : List Gap) → n < s → is_skipped gaps n ≡ false → is_skipped (with_gap gaps s e) n ≡ false
 still_free s e n [] lt free = or_from _ false (under n (next_gap s e) lt) refl
 still_free s e n (last ∷ lower) lt free =
@@ -99,7 +100,7 @@ highest_below zero top gaps is = highest top gaps is
 highest_below (suc k) top [] is = omega arith
 highest_below (suc k) top (gap ∷ gaps) is = highest_below k top gaps is.2
 
--- the end of the range that is forgotten is at or below each of these
+-- The end of the range that is forgotten is not above the numbers that are skipped.
 pub forgotten_below : (s : ℕ) (gaps : List Gap) → IsBelow s gaps → forgotten gaps s ≤ s
 forgotten_below s [] is = omega arith
 forgotten_below s (last ∷ lower) is =

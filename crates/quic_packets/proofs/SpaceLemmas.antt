@@ -1,4 +1,5 @@
--- The bits of the numbers that were received: the words take turns.
+-- The bits of the numbers that were received. The words of the window are used in turn, so numbers that are a window apart
+-- share a bit.
 use Rattle.std.proofs.Common.{◌≡◌, ◌≢◌, ℕ, ◌+◌, ◌-◌, ◌*◌, ◌/◌, ◌%◌, ◌<◌, ◌≤◌, ◌↔◌, ◌⊎◌, List, length, get_or, inl, inr, max, refl, sym, ap₂, subst, ◌∙◌, arith, set}
 use Rattle.std.proofs.lemmas.Bool.{cases_eq, cases_lt}
 use Rattle.std.proofs.lemmas.List.{get_or-set_other, get_or-set_same, length-set}
@@ -6,13 +7,13 @@ use Rattle.std.specs.Int.{bit_at}
 use Rattle.quic_packets.specs.Space.{IsNew, ShareBit, bit_of}
 use Rattle.quic_packets.proofs.NumberLemmas.{apart as same_rest}
 
--- two numbers of one window have bits of their own
+-- Two numbers of one window don't share a bit.
 apart : (words m n : ℕ) → m ≢ n → m < n + 64 * words → n < m + 64 * words → ¬ ShareBit words m n
 apart words m n other near near' share =
     let bit = share.bit in
     omega (arith, same_rest words (m / 64) (n / 64) share.word)
 
--- what is left once a number within the window is received
+-- The numbers that are still new once a number within the window is received.
 pub left_within : (next number : ℕ) (old new : List ℕ) → length new ≡ length old → number < next → next ≤ number + 64 * length old
     → bit_of new number ≡ 1 → ((n : ℕ) → ¬ ShareBit (length old) n number → bit_of new n ≡ bit_of old n)
     → (n : ℕ) → IsNew (record { next = next; seen = new }) n
@@ -34,7 +35,8 @@ left_within next number old new len below inside here others n = (
   },
 )
 
--- what is left once a number above all others is received: the bits from `low` up to it are cleared, and then its own is set
+-- The numbers that are still new once a number above all others is received: the bits from `low` up to it are cleared, and then
+-- its own is set.
 pub left_above : (next number low : ℕ) (old mid new : List ℕ) → 0 < length old → length mid ≡ length old → length new ≡ length old
     → next ≤ number → low ≡ max next (number + 1 - 64 * length old) → ((n : ℕ) → low ≤ n → n < number + 1 → bit_of mid n ≡ 0)
     → ((n : ℕ) → ((m : ℕ) → low ≤ m → m < number + 1 → ¬ ShareBit (length old) n m) → bit_of mid n ≡ bit_of old n)
@@ -71,7 +73,7 @@ shared_bit seen m n share = ap₂ (λ w b. bit_at (get_or seen w 0) b) share.wor
 cases_share : (words m n : ℕ) → ShareBit words m n ⊎ ¬ ShareBit words m n
 cases_share words m n = grind (arith, cases_eq (m / 64 % words) (n / 64 % words), cases_eq (m % 64) (n % 64))
 
--- one more number of a range whose bits are cleared
+-- The bits of a range are cleared one by one: what holds up to a number also holds with this number.
 module _ (from number : ℕ) (old mid new : List ℕ) (len_mid : length mid ≡ length old) (len_new : length new ≡ length mid)
     (here : bit_of new number ≡ 0) (kept : (n : ℕ) → ¬ ShareBit (length mid) n number → bit_of new n ≡ bit_of mid n) where
   pub cleared_more : ((n : ℕ) → from ≤ n → n < number → bit_of mid n ≡ 0) → (n : ℕ) → from ≤ n → n < number + 1 → bit_of new n ≡ 0
@@ -89,7 +91,7 @@ module _ (from number : ℕ) (old mid new : List ℕ) (len_mid : length mid ≡ 
       kept n (subst (λ l. ¬ ShareBit l n number) (sym len_mid) (unshared number up (omega arith)))
       ∙ was n (λ m from_on below. unshared m from_on (omega arith))
 
--- a word that is written: the bit of a number, and those that others have
+-- When a word is written, the bit of a number is the bit of that word, and the bits of other numbers stay.
 module _ (seen : List ℕ) (number v : ℕ) (some : 0 < length seen) where
   abbrev word : ℕ
   word = number / 64 % length seen

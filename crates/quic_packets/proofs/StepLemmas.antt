@@ -1,6 +1,6 @@
--- The packet at a byte of a datagram, and the step past it, whether a receiver has tried it or not.
+-- The packet at a byte of a datagram, and the step past it, whether it was given to a receiver or not.
 use Rattle.std.proofs.Common.{◌≡◌, ℕ, ◌+◌, ◌<◌, ◌≤◌, ◌↔◌, ◌⊎◌, Bool, true, false, inl, inr, List, length, Option, None, Some, Ok, Err, Result, OnErr, IfOk, IfSome, IsSome, IsFalse, IsTrue, is_some, if◌then◌else◌, unwrap_or, refl, sym, ap, subst, arith, ◌∙◌}
-use Rattle.quic_packets.specs.Connection.{Connection, IfPacket, IsOwn, IsPacketAt, IsReceiving, IsStranger, IsToOpen, IsUnopened, IsWithoutKeys, StepOutcome, end_of, given_of, is_discarded, packet_in, receiver_of, sender_after, space_of, tried, unopened, update_after, with_receiver, with_sender}
+use Rattle.quic_packets.specs.Connection.{Connection, IfPacket, IsOwn, IsPacketAt, IsReceiving, IsStranger, IsToOpen, IsUnopened, IsWithoutKeys, StepOutcome, given_of, is_discarded, next_packet_at, packet_in, receiver_of, sender_after, space_of, tried, unopened, update_after, with_receiver, with_sender}
 use Rattle.quic_packets.specs.Datagram.{packet_of}
 use Rattle.quic_packets.specs.Errors.{receive_error_code}
 use Rattle.quic_packets.specs.Failures.{Failures}
@@ -15,7 +15,7 @@ use Rattle.quic_packets.specs.declared.receive_error.ReceiveError.{ReceiveError}
 use Rattle.quic_packets.specs.declared.receive_error.ReceiveError.TheVariants.{Refused}
 use Rattle.quic_packets.specs.declared.receiver.Received.{Received}
 
--- a fact about what is given of a packet, by what the receiver returned
+-- A fact holds for the result `given_of` if it holds in each of its three cases: received, closed, and dropped.
 given_cases : (P : Result Received ReceiveError → Result Step ReceiveError → Type 0) (next : ℕ) (t : PacketType)
     (u : Option PeerUpdate) (o : Result Received ReceiveError)
     → ((r : Received) → P (Ok r) (Ok (record { next = next; incoming = PacketOf t r u })))
@@ -30,12 +30,12 @@ given_cases P next t u (Err e) received closed dropped = by_code (is_some (recei
     by_code true closes = closes refl
     by_code false closes = dropped e
 
--- an error that closes the connection isn't counted
+-- An error that closes the connection isn't counted as a failure.
 uncounted : (f : Failures) (e : ReceiveError) → is_some (receive_error_code e) ≡ true → failures_after f (Err e) ≡ f
 uncounted f Refused is = absurd cc
 uncounted f e is = refl
 
--- a test of the limit that returns false
+-- The count is below the limit if the test of the limit returns false.
 pub is_below : (test : Bool) (count limit : ℕ) → IsTrue test ↔ (limit ≤ count) → test ≡ false → count < limit
 is_below test count limit is unmet =
     let below : (limit ≤ count) → ⊥ = λ most. (let yes : test ≡ true = is.1 most in absurd cc) in
@@ -45,7 +45,7 @@ some_of : (o : Option Receiver) → IsSome o → (r : Receiver) × (o ≡ Some r
 some_of (Some r) is = (r, refl)
 some_of None is = absurd cc
 
--- a result of a receiver that is there before and after
+-- A fact about a receiver that is there before and after a call holds for its two states.
 tried_at : (T : Receiver → Receiver → Type 0) (o o' : Option Receiver) (r : Receiver) → o ≡ Some r → IsSome o'
     → IfSome o (λ r. IfSome o' (λ r'. T r r')) → T r (unwrap_or o' r)
 tried_at T o (Some r') r is some both = subst (λ o. IfSome o (λ r. T r r')) is both
@@ -53,11 +53,11 @@ tried_at T o None r is some both = absurd cc
 
 module _ (c : Connection) (id_len : ℕ) (id datagram : List ℕ) (at : ℕ) (parts : Packet)
     (parsed : packet_of c.fixed_bit id_len datagram at ≡ Ok parts) where
-  -- there is one packet at a byte
+  -- There is only one packet at a byte.
   same_parts : (p : Packet) → IsPacketAt c id_len id datagram at p → p ≡ parts
   same_parts p is = let its : packet_of c.fixed_bit id_len datagram at ≡ Ok p = is.parsed in cc
 
-  -- it isn't the connection's, or its keys were dropped
+  -- The packet doesn't belong to the connection, or its keys were discarded.
   abbrev IsOther : Type 0
   IsOther = IsOwn id datagram parts → IsFalse (is_discarded c parts.packet_type) → ⊥
 
@@ -66,12 +66,12 @@ module _ (c : Connection) (id_len : ℕ) (id datagram : List ℕ) (at : ℕ) (pa
       let same = same_parts p is in
       other (subst (IsOwn id datagram) same is.own) (subst (λ p. IsFalse (is_discarded c p.packet_type)) same is.undropped)
 
-  -- a packet that isn't opened
+  -- The step past a packet that isn't opened begins the next packet at its end.
   module _ (begins : parts.start ≡ at) (some : parts.start < parts.end) (within : parts.end ≤ length datagram) where
     past : (i : Incoming) → IsStranger c id_len id datagram at i ⊎ IsWithoutKeys c id_len id datagram at i
         → IsUnopened c id_len id datagram at (record { next = parts.end; incoming = i })
     past i why = record {
-      next = sym (ap (λ p. end_of p (length datagram)) parsed);
+      next = sym (ap (λ p. next_packet_at p (length datagram)) parsed);
       moves_on = λ inside. (omega (arith, begins, some), within);
       incoming = why;
     }
@@ -85,7 +85,7 @@ module _ (c : Connection) (id_len : ℕ) (id datagram : List ℕ) (at : ℕ) (pa
     past_keyless own undropped none =
         past (NoKeys parts.packet_type) (inr (parts, record { parsed = parsed; own = own; undropped = undropped }, refl, none))
 
--- the step past a packet that is not opened
+-- The outcome of `receive` for a packet that is passed over unopened.
 pub passed_over : (c : Connection) (id_len : ℕ) (id datagram : List ℕ) (at : ℕ) (step : Step) → IsReceiving c
     → IsUnopened c id_len id datagram at step → StepOutcome c c id_len id datagram datagram at (Ok step)
 passed_over c id_len id datagram at step receiving it = record {
@@ -107,7 +107,7 @@ passed_over c id_len id datagram at step receiving it = record {
     none i j same absent = subst (λ o. IfSome o (λ p. (at < p.1.payload.start) × (p.1.payload.start ≤ p.1.payload.end)
         × (p.1.payload.end + 16 ≤ length datagram))) (sym (ap packet_in same ∙ absent)) tt
 
--- the step past a packet that a receiver has tried
+-- The outcome of `receive` for a packet that was given to a receiver.
 module _ (c c' : Connection) (id_len : ℕ) (id old new : List ℕ) (at : ℕ) (parts : Packet) (receiving : IsReceiving c)
     (it : IsToOpen c id_len id old at parts) (opened : Result Received ReceiveError) (result : Result Step ReceiveError)
     (given : result ≡ given_of parts.end parts.packet_type (update_after parts.packet_type c.one_rtt c'.one_rtt.receiver) opened)
@@ -140,8 +140,8 @@ module _ (c c' : Connection) (id_len : ℕ) (id old new : List ℕ) (at : ℕ) (
       subst (P opened) (sym given) (given_cases P parts.end parts.packet_type
       (update_after parts.packet_type c.one_rtt c'.one_rtt.receiver) opened received closed dropped)
 
-  ends : parts.end ≡ end_of (packet_of c.fixed_bit id_len old at) (length old)
-  ends = sym (ap (λ p. end_of p (length old)) it.packet.parsed)
+  ends : parts.end ≡ next_packet_at (packet_of c.fixed_bit id_len old at) (length old)
+  ends = sym (ap (λ p. next_packet_at p (length old)) it.packet.parsed)
 
   pub given_step : StepOutcome c c' id_len id old new at result
   given_step = record {
@@ -154,7 +154,7 @@ module _ (c c' : Connection) (id_len : ℕ) (id old new : List ℕ) (at : ℕ) (
       others = others;
       kept = kept;
     });
-    next = by_given (λ o step. IfOk step (λ step. step.next ≡ end_of (packet_of c.fixed_bit id_len old at) (length old)))
+    next = by_given (λ o step. IfOk step (λ step. step.next ≡ next_packet_at (packet_of c.fixed_bit id_len old at) (length old)))
         (λ r. ends) (λ e code. tt) (λ e. ends);
     moves_on = λ inside. (
         let past : (at < parts.end) × (parts.end ≤ length old) = (omega (arith, it.begins, it.some), it.within) in
@@ -169,5 +169,5 @@ module _ (c c' : Connection) (id_len : ℕ) (id old new : List ℕ) (at : ℕ) (
         (λ e code counted but. but ∙ ap (λ f. record c { failures = f }) (counted ∙ uncounted c.failures e code))
         (λ e counted but. tt) outcome.counted kept;
     outside = λ i apart. outcome.outside i (subst (λ s. (i < s) ⊎ (parts.end ≤ i)) (sym it.begins)
-        (subst (λ p. (i < at) ⊎ (end_of p (length old) ≤ i)) it.packet.parsed apart));
+        (subst (λ p. (i < at) ⊎ (next_packet_at p (length old) ≤ i)) it.packet.parsed apart));
   }

@@ -16,7 +16,7 @@ use Rattle.quic_packets.proofs.HeaderLemmas.{same_form_masked, same_range}
 use Rattle.quic_packets.proofs.NumberedLemmas.{IsNumbered, numbered, same_form}
 use Rattle.quic_packets.proofs.PacketLemmas.{length-whole}
 
--- a list that begins with the front of another one
+-- A list that begins with the front of another list.
 front : (n : ℕ) (xs rest : List ℕ) (i : ℕ) → i < n → n ≤ length xs → get_or (take n xs ++ rest) i 0 ≡ get_or xs i 0
 front n xs rest i lt le =
     get_or_append_left (take n xs) rest 0 i (omega (arith, length-take-le n xs le)) ∙ get_or-take n xs i 0 lt
@@ -63,7 +63,7 @@ module _ (s : Sender) (fixed_bit : FixedBit) (start end : ℕ) (packet wire : Li
       ap (is_other_version s.version) (ap₂ (λ long bytes. if long then Some (number_from_digits 256 bytes) else None) long field)
       ∙ sealable.of_version
 
--- a packet whose number comes after its version isn't of another one
+-- A packet whose number comes after its version is not of another version.
 abbrev OfVersion : Version → Sent → Type 0
 OfVersion version p = 5 ≤ p.number_at → is_other_version version (header_version p.wire) ≡ false
 

@@ -1,4 +1,4 @@
--- The parts of a header that was written.
+-- `packet_at` finds in a header that was written the parts that were given.
 use Rattle.std.proofs.Common.{◌≡◌, ℕ, zero, suc, ◌+◌, ◌-◌, ◌*◌, ◌/◌, ◌%◌, ◌^◌, ◌<◌, ◌≤◌, List, [], ◌∷◌, ◌++◌, length, get_or, take, drop, refl, sym, ap, ap₂, ◌∙◌, arith, add-zero, append_assoc, drop_at, length-append, take_at, Ok, Some, None, Option, Bool, false, true}
 use Rattle.std.proofs.Math.Bool.{and-false}
 use Rattle.std.proofs.Math.Seq.{get_or-append_seam}
@@ -27,7 +27,7 @@ use Rattle.quic_packets.specs.HeaderBytes.{HasLongParts, HasShortParts, IsLongHe
 use Rattle.quic_packets.proofs.FieldLemmas.{length-high_first}
 use Rattle.quic_packets.proofs.NumberBytes.{bytes_read}
 
--- a list between two others, by its positions
+-- A list between two others, found by its positions.
 range : (xs ys zs : List ℕ) (start end : ℕ) → start ≡ length xs → end ≡ start + length ys → slice_range (xs ++ (ys ++ zs)) start end ≡ ys
 range xs ys zs start end from to =
     ap (take (end - start)) (drop_at xs (ys ++ zs) start (sym from)) ∙ take_at ys zs (end - start) (omega arith)
@@ -91,7 +91,7 @@ module _ (d xs ys : List ℕ) (log value at : ℕ) (is : d ≡ xs ++ (integer lo
       (ap (λ l. slice_range l at end) is ∙ range xs (integer log value) ys at end from long) (omega (arith, long, its_length))
       ∙ value_of log value encodes.0 encodes.1
 
--- a packet with a long header of these fields is parsed, and has these parts
+-- A datagram that begins with a long header of these fields is parsed to a packet with these parts.
 abbrev IsParsed : (number id_len : ℕ) (datagram : List ℕ) (kind : PacketType) (id source text : List ℕ) (at to : ℕ) → Type 0
 IsParsed number id_len datagram kind id source text at to = (p : Packet) × (parts_of id_len datagram 0 ≡ Ok p) × record {
   start : p.start ≡ 0;
@@ -112,7 +112,7 @@ record IsVersion (version : Version) (a b c d : ℕ) : Type 0 where
   some : (number_of a b c d == 0) ≡ false
   known : numbered_version (number_of a b c d) ≡ Some version
 
--- a long header with its fields, and what follows it
+-- A long header with its fields, and the bytes that follow it.
 module _ (version : Version) (a b c d : ℕ) (is_version : IsVersion version a b c d) (first : ℕ) (id source token : List ℕ)
     (log n : ℕ) (rest : List ℕ) (long : 0x80 ≤ first) (short_id : length id ≤ 20) (short_source : length source ≤ 20)
     (encodes : (log ≤ 2) × Encodes log n) (whole_packet : n ≤ length rest) where
@@ -289,7 +289,7 @@ by_version : (version : Version) → IsParsedOf version (version_number version)
 by_version One = by_type One 0 0 0 1 (record { some = refl; known = refl })
 by_version Two = by_type Two 0x6b 0x33 0x43 0xcf (record { some = refl; known = refl })
 
--- the fixed bit
+-- The fixed bit of a header that is written is 1.
 with_bit : (fixed_bit : FixedBit) (version : Option ℕ) (byte : ℕ) → byte / 2 ^ 6 % 2 ≡ 1 → lacks_fixed_bit fixed_bit version byte ≡ false
 with_bit Required None byte is = ap (λ b. b == 0) is
 with_bit Required (Some version) byte is = rw is (and-false (is_some (numbered_version version)))

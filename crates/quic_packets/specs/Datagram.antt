@@ -1,5 +1,5 @@
--- The positions of a packet's parts in a datagram (RFC 9000 sections 12.2 and 17, RFC 8999 section 5). A position counts the
--- bytes before it. Past its end, a datagram reads as zeros, so a packet that is cut ends past the datagram.
+-- The positions of a packet's parts in a datagram (RFC 9000 sections 12.2 and 17, RFC 8999 section 5). A position is the number
+-- of bytes before it. Past its end a datagram reads as zeros, so the layout of a packet that is cut ends past the datagram.
 use Rattle.std.specs.Prelude.{◌≡◌, ℕ, ◌<◌, ◌≤◌, ◌+◌, ◌-◌, ◌*◌, ◌/◌, ◌%◌, ◌^◌, ◌⊎◌, unwrap_or, Bool, ◌==◌, ◌||◌, nat_lt, max, if◌then◌else◌, List, length, slice_index, slice_range, Option, None, Some, is_some, IfSome, Result, Ok, Err}
 use Rattle.std.specs.Int.Digits.{number_from_digits}
 use Rattle.std.specs.declared.ops.Range.{Range}
@@ -14,12 +14,12 @@ use Rattle.quic_packets.specs.declared.datagram.PacketType.{PacketType}
 use Rattle.quic_packets.specs.declared.fixed_bit.FixedBit.{FixedBit}
 use Rattle.quic_packets.specs.declared.datagram.PacketType.TheVariants.{Initial, Retry, VersionNegotiation, OneRtt, OtherVersion}
 
--- the end of the variable-length integer at a byte: the two highest bits of that byte are the base-2 logarithm of its length
--- (section 16)
+-- The end of the variable-length integer that begins at a byte. The two highest bits of that byte are the base-2 logarithm of
+-- the integer's length in bytes (section 16).
 abbrev pub varint_end : List ℕ → ℕ → ℕ
 varint_end datagram at = at + 2 ^ (slice_index datagram at / 2 ^ 6)
 
--- its value: the bits after these two, in network byte order (section 16)
+-- The value of that integer: the bits after these two, in network byte order (section 16).
 abbrev pub varint : List ℕ → ℕ → ℕ
 varint datagram at =
     let end = varint_end datagram at in number_from_digits 256 (slice_range datagram at end) % 2 ^ (8 * (end - at) - 2)
@@ -32,7 +32,7 @@ id_end datagram at = at + 1 + slice_index datagram at
 abbrev pub version_of : List ℕ → ℕ → ℕ
 version_of datagram start = number_from_digits 256 (slice_range datagram (start + 1) (start + 5))
 
--- the ends of its two connection IDs, which follow the version (RFC 8999 section 5.1)
+-- The ends of the two connection IDs, which follow the version (RFC 8999 section 5.1).
 abbrev pub destination_end : List ℕ → ℕ → ℕ
 destination_end datagram start = id_end datagram (start + 5)
 
@@ -43,7 +43,8 @@ source_end datagram start = id_end datagram (destination_end datagram start)
 abbrev pub span : ℕ → ℕ → Range ℕ
 span start end = record { start = start; end = end }
 
--- a long header: its version and its connection IDs (RFC 8999 section 5.1), and the parts that depend on the version
+-- A long header: its version and its connection IDs (RFC 8999 section 5.1), with the parts that depend on the version as
+-- arguments.
 abbrev pub long_layout : List ℕ → ℕ → PacketType → Range ℕ → Option ℕ → ℕ → Packet
 long_layout datagram start packet_type token number_at end = record {
   start = start;
@@ -56,39 +57,40 @@ long_layout datagram start packet_type token number_at end = record {
   end = end;
 }
 
--- a packet whose version gives it no Length field is the rest of the datagram (section 12.2)
+-- A packet of a version or type without a Length field is the rest of the datagram (section 12.2).
 abbrev pub opaque_layout : List ℕ → ℕ → PacketType → Packet
 opaque_layout datagram start packet_type =
     let from = source_end datagram start in
     long_layout datagram start packet_type (span from from) None (max from (length datagram))
 
--- after the token, if there is one: the Length field, and then the packet number and the payload, which have that length
--- together (section 17.2)
+-- A packet with a number: after the token, if there is one, comes the Length field, and then the packet number and the payload,
+-- which have that length together (section 17.2).
 abbrev pub numbered_layout : List ℕ → ℕ → PacketType → Range ℕ → Packet
 numbered_layout datagram start packet_type token =
     let number_at = varint_end datagram token.end in
     long_layout datagram start packet_type token (Some number_at) (number_at + varint datagram token.end)
 
--- the token of an Initial packet, which follows its length (section 17.2.2)
+-- The token of an Initial packet follows its length (section 17.2.2).
 abbrev pub initial_token : List ℕ → ℕ → Range ℕ
 initial_token datagram start =
     let from = source_end datagram start in let at = varint_end datagram from in span at (at + varint datagram from)
 
--- a Retry packet is its token and a tag of 16 bytes, up to the end of the datagram (sections 12.2 and 17.2.5)
+-- A Retry packet consists of a long header, its token and a tag of 16 bytes, and extends to the end of the datagram (sections
+-- 12.2 and 17.2.5).
 abbrev pub retry_layout : List ℕ → ℕ → Packet
 retry_layout datagram start =
     let from = source_end datagram start in let end = max (from + 16) (length datagram) in
     long_layout datagram start Retry (span from (end - 16)) None end
 
--- a packet of version 1 or 2, by its type. An Initial packet alone has a token before its Length field.
+-- A packet of version 1 or 2, by its type. Only an Initial packet has a token before its Length field.
 abbrev pub typed_layout : PacketType → List ℕ → ℕ → Packet
 typed_layout Initial datagram start = numbered_layout datagram start Initial (initial_token datagram start)
 typed_layout Retry datagram start = retry_layout datagram start
 typed_layout packet_type datagram start =
     let from = source_end datagram start in numbered_layout datagram start packet_type (span from from)
 
--- a short header: the destination connection ID, whose length the receiver knows, and the packet number. The packet is the rest
--- of the datagram (sections 12.2 and 17.3.1).
+-- A short header has the destination connection ID, whose length the receiver knows, and the packet number. The packet is the
+-- rest of the datagram (sections 12.2 and 17.3.1).
 abbrev pub short_layout : ℕ → List ℕ → ℕ → Packet
 short_layout connection_id_len datagram start =
     let number_at = start + 1 + connection_id_len in record {
@@ -102,13 +104,13 @@ short_layout connection_id_len datagram start =
       end = max number_at (length datagram);
     }
 
--- a long header of version 1 or 2, by the type that its bits have in this version (section 17.2, RFC 9369 section 3.2), or of
--- another one
+-- A long header of a known version has the type that its bits mean in this version (section 17.2, RFC 9369 section 3.2). In a
+-- header of another version only the connection IDs are parsed.
 abbrev pub known_layout : Option Version → List ℕ → ℕ → Packet
 known_layout (Some version) datagram start = typed_layout (type_of version (bits_of (slice_index datagram start))) datagram start
 known_layout None datagram start = opaque_layout datagram start OtherVersion
 
--- a long header, by its version. Version 0 is Version Negotiation (section 17.2.1).
+-- A long header, by its version number. Number 0 is Version Negotiation (section 17.2.1).
 abbrev pub versioned_layout : List ℕ → ℕ → Packet
 versioned_layout datagram start =
     if version_of datagram start == 0 then opaque_layout datagram start VersionNegotiation
@@ -124,7 +126,7 @@ has_long_id datagram start =
     let longest = longest_id (version_of datagram start) in
     nat_lt longest (slice_index datagram (start + 5)) || nat_lt longest (slice_index datagram (destination_end datagram start))
 
--- a packet that ends past the datagram is rejected
+-- A packet that ends past the datagram is rejected.
 abbrev pub whole : List ℕ → Packet → Result Packet DatagramError
 whole datagram packet = if nat_lt (length datagram) packet.end then Err Cut else Ok packet
 
@@ -138,33 +140,34 @@ parts_of connection_id_len datagram start =
     if nat_lt (slice_index datagram start) 0x80 then whole datagram (short_layout connection_id_len datagram start)
     else long_packet datagram start
 
--- a packet with this first byte is rejected if its fixed bit is 0 and must be 1 (sections 17.2 and 17.3.1), and the error has its
--- end
-abbrev pub with_fixed_bit : FixedBit → (first : ℕ) → Result Packet DatagramError → Result Packet DatagramError
-with_fixed_bit fixed_bit first (Err error) = Err error
-with_fixed_bit fixed_bit first (Ok packet) =
+-- A packet with this first byte is rejected if its fixed bit is 0 and must be 1 (sections 17.2 and 17.3.1). The error has the
+-- end of the packet.
+abbrev pub check_fixed_bit : FixedBit → (first : ℕ) → Result Packet DatagramError → Result Packet DatagramError
+check_fixed_bit fixed_bit first (Err error) = Err error
+check_fixed_bit fixed_bit first (Ok packet) =
     if lacks_fixed_bit fixed_bit packet.version first then Err (NoFixedBit packet.end) else Ok packet
 
 -- the result of parsing the packet at a byte
 abbrev pub packet_of : FixedBit → ℕ → List ℕ → ℕ → Result Packet DatagramError
 packet_of fixed_bit connection_id_len datagram start =
-    with_fixed_bit fixed_bit (slice_index datagram start) (parts_of connection_id_len datagram start)
+    check_fixed_bit fixed_bit (slice_index datagram start) (parts_of connection_id_len datagram start)
 
--- where the packet after one that is rejected begins: at the end that the error has, or else at that of the datagram
+-- The position after a packet that is rejected, where the next one begins: the end that the error has, or that of the datagram
+-- if it has none.
 abbrev pub next_after : DatagramError → (len : ℕ) → ℕ
 next_after (NoFixedBit end) len = end
 next_after _ len = len
 
--- where the packet number begins in its packet, counted from the packet's first byte. It is 0 if there is no number.
+-- The position of the packet number, counted from the packet's first byte. It is 0 if there is no number.
 abbrev pub number_in : Packet → ℕ
 number_in packet = unwrap_or packet.number_at 0 - packet.start
 
--- the range is in the packet, after its first byte
+-- The range lies in the packet, after its first byte.
 abbrev pub IsIn : Packet → Range ℕ → Type 0
 IsIn packet range = (packet.start < range.start) × (range.start ≤ range.end) × (range.end ≤ packet.end)
 
--- the place of a packet that is read: it begins where it was asked for, has a byte, and ends within the datagram, and its number
--- and its ranges are in it
+-- The place of a packet that was parsed: it begins where it was asked for, has at least one byte, and ends within the datagram.
+-- Its number and its ranges lie in it.
 pub record IsPlaced (start : ℕ) (datagram : List ℕ) (packet : Packet) : Type 0 where
   pub begins : packet.start ≡ start
   pub some : packet.start < packet.end

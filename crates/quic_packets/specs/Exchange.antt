@@ -1,4 +1,5 @@
--- The packets that a sender sends over its life, and the packets that a receiver returns, for the laws.
+-- The packets that a sender has sent over its life, and the packets that a receiver returns for them. The laws are stated with
+-- these.
 use Rattle.std.specs.Prelude.{◌≡◌, ℕ, ◌+◌, ◌-◌, ◌<◌, ◌≤◌, ◌↔◌, ◌⊎◌, if◌then◌else◌, max, min, true, nat_lt, nat_le, false, List, [], ◌∷◌, length, take, slice_index, Option, None, Some, IsSome, Contains, Result, IsOk, IfOk, IsErrOf}
 use Rattle.aead_ciphers.specs.HeaderProtection.{HeaderKey}
 use Rattle.key_derivation.specs.Quic.{QuicSecretState}
@@ -13,8 +14,8 @@ use Rattle.quic_packets.specs.declared.receive_error.ReceiveError.TheVariants.{D
 use Rattle.quic_packets.specs.declared.fixed_bit.FixedBit.{FixedBit}
 use Rattle.quic_packets.specs.declared.receiver.Received.{Received}
 
--- a packet that was sent: its number, the position of the number, the length of the header, and the packet before sealing and
--- after protection
+-- A packet that was sent: its number, the position of the number, the length of the header, the packet before it was sealed,
+-- and its bytes after protection (`wire`).
 pub record Sent : Type 0 where
   pub number : ℕ
   pub number_at : ℕ
@@ -27,7 +28,7 @@ pub record Update : Type 0 where
   pub key : PacketKey
   pub first : ℕ
 
--- the packet keys of a sender: the first key, and the key updates, last one first
+-- The packet keys of a sender: the first key, and the key updates, the last one first.
 pub record Life : Type 0 where
   pub key : PacketKey
   pub updates : List Update
@@ -42,7 +43,7 @@ abbrev pub updates_before : List Update → ℕ → ℕ
 updates_before [] number = 0
 updates_before (update ∷ earlier) number = (if nat_le update.first number then 1 else 0) + updates_before earlier number
 
--- The packets that a sender has sent, last one first, under the keys of its life, over any calls. It is created, sends packets,
+-- The packets that a sender has sent, the last one first, under the keys of its life. The sender is created, sends packets,
 -- skips numbers and updates its keys, and learns of acknowledgments, of the confirmed handshake and of a lower limit. A call
 -- that fails changes nothing.
 pub data HasSent : Sender → Life → List Sent → Type 0 where
@@ -67,22 +68,22 @@ pub data HasSent : Sender → Life → List Sent → Type 0 where
   lowers : (s : Sender) (life : Life) (sent : List Sent) (limit : ℕ) → HasSent s life sent
       → HasSent (record s { limit = min s.limit limit }) life sent
 
--- the packet with this number was sent, and after every key update, so in the current key phase
+-- The packet with this number was sent after every key update, and so in the current key phase.
 pub record WasSentInPhase (life : Life) (sent : List Sent) (number : ℕ) : Type 0 where
   pub was_sent : (packet : Sent) × Contains sent packet × (packet.number ≡ number)
   pub in_phase : updates_before life.updates number ≡ length life.updates
 
--- After `own` key updates, a receiver holds the key of a packet: it is the current key or, for a short header, which has a Key
--- Phase bit, the next or the previous key.
+-- After `own` key updates, a receiver holds the key of a packet: the key is the current one or, for a short header, which has a
+-- Key Phase bit, the next or the previous one.
 abbrev pub Holds : (r : Receiver) (own : ℕ) → Life → Sent → Type 0
 Holds r own life packet =
     let updates = updates_before life.updates packet.number in
     (updates ≡ own) ⊎ ((is_long (slice_index packet.packet 0) ≡ false)
     × (((updates ≡ own + 1) × IsSome r.next) ⊎ ((updates + 1 ≡ own) × IsSome r.previous)))
 
--- The state of a receiver after any calls, and its number of key updates. It is created with the sender's first key. It
--- receives packets that were sent, in any order, while it holds their keys. It is given the next key, which is the sender's if
--- the sender has one, and it forgets the previous key. A packet that is rejected changes nothing.
+-- The state of a receiver after any calls, and its number of key updates. It is created with the sender's first key, and
+-- receives packets that were sent, in any order, while it holds their keys. The next key that it is given is the sender's next
+-- key, if the sender has one. It may forget the previous key. A packet that is rejected changes nothing.
 pub data Follows : Life → List Sent → Receiver → ℕ → Type 0 where
   begins : (life : Life) (sent : List Sent) (version : Version) (header : HeaderKey) (secret : Option QuicSecretState)
       → Follows life sent (new_receiver version header life.key secret) 0
@@ -95,7 +96,7 @@ pub data Follows : Life → List Sent → Receiver → ℕ → Type 0 where
   forgets : (life : Life) (sent : List Sent) (r : Receiver) (own : ℕ) → Follows life sent r own
       → Follows life sent (record r { previous = None }) own
 
--- A packet that was sent, and begins at byte `start` of a datagram, is returned: it is received if its number is new, and a
+-- The result for a packet that was sent and begins at byte `start` of a datagram: it is received if its number is new, and is a
 -- duplicate otherwise. Its number, its header and its payload are then as they were sent.
 pub record GivesBack (space : Space) (start : ℕ) (packet : Sent) (result : Result Received ReceiveError) (opened : List ℕ) : Type 0 where
   pub accepted : IsOk result ↔ IsNew space packet.number
@@ -107,7 +108,7 @@ pub record GivesBack (space : Space) (start : ℕ) (packet : Sent) (result : Res
   })
   pub bytes : take (length packet.packet - 16) opened ≡ take (length packet.packet - 16) packet.packet
 
--- the numbers that a space of some words counts as received, last one first: each was new
+-- The numbers that a space of some words has counted as received, the last one first. Each was new.
 pub data Counts : Space → List ℕ → Type 0 where
   none : (words : ℕ) → Counts (new_space words) []
   marks : (s t : Space) (number : ℕ) (numbers : List ℕ) → IsNew s number → Marks s number t → Counts s numbers → Counts t (number ∷ numbers)

@@ -4,12 +4,12 @@ use Rattle.key_derivation.specs.Quic.{numbered_version}
 use Rattle.quic_packets.specs.declared.fixed_bit.FixedBit.{FixedBit}
 use Rattle.quic_packets.specs.declared.fixed_bit.FixedBit.TheVariants.{Required, Greased}
 
--- a short header, which has no version, and a long one of version 1 or 2 have the bit
+-- A short header, which has no version, and a long header of version 1 or 2 have the fixed bit.
 abbrev pub has_fixed_bit : (version : Option ℕ) → Bool
 has_fixed_bit None = true
 has_fixed_bit (Some version) = is_some (numbered_version version)
 
--- it must be 1, and is 0 in the first byte
+-- The fixed bit must be 1, and is 0 in the first byte.
 abbrev pub lacks_fixed_bit : FixedBit → (version : Option ℕ) → (first : ℕ) → Bool
 lacks_fixed_bit Required version first = has_fixed_bit version && first / 2 ^ 6 % 2 == 0
 lacks_fixed_bit Greased version first = false

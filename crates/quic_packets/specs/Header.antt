@@ -1,6 +1,8 @@
 -- Header protection (RFC 9001 section 5.4). Bytes are taken by index.
-use Rattle.std.specs.Prelude.{◌≡◌, ℕ, ◌+◌, ◌<◌, ◌≤◌, ◌==◌, if◌then◌else◌, ◌⊎◌, List, length, bit_and, bit_xor, slice_index, slice_range}
+use Rattle.std.specs.Prelude.{◌≡◌, ◌≢◌, ℕ, ◌+◌, ◌<◌, ◌≤◌, ◌==◌, ◌↔◌, if◌then◌else◌, ◌⊎◌, ⊤, List, length, bit_and, bit_xor, slice_index, slice_range, Result, IsOk, IsErrOf, OnOk, OnErr}
 use Rattle.aead_ciphers.specs.HeaderProtection.{HeaderKey, header_protection}
+use Rattle.quic_packets.specs.declared.mask_error.MaskError.{MaskError}
+use Rattle.quic_packets.specs.declared.mask_error.MaskError.TheVariants.{NoSample, NumberLength}
 
 -- the length of the packet number in bytes, from the low two bits of the unmasked first byte (section 5.4.1)
 abbrev pub number_len : ℕ → ℕ
@@ -10,7 +12,7 @@ number_len first = bit_and first 0x03 + 1
 abbrev pub first_mask : ℕ → ℕ → ℕ
 first_mask first mask = if bit_and first 0x80 == 0x80 then bit_and mask 0x0f else bit_and mask 0x1f
 
--- the packet has a first byte before its number, and is long enough for a sample (section 5.4.2)
+-- The packet number doesn't begin at the first byte, and the packet is long enough for a sample (section 5.4.2).
 pub record HasSample (number_at len : ℕ) : Type 0 where
   pub first_byte : 0 < number_at
   pub sampled : number_at + 20 ≤ len
@@ -37,15 +39,27 @@ pub record MaskedParts (mask : List ℕ) (n was : ℕ) (number_was : List ℕ) (
   pub others : (i : ℕ) → n ≤ i → slice_index number_now i ≡ slice_index number_was i
   pub len : length number_now ≡ length number_was
 
--- protecting: the length of the packet number is read before the first byte is masked (section 5.4.1)
+-- What becomes of a header's first byte and packet number, which are masked or unmasked by a sample, where the packet number
+-- has n bytes: they are masked, or refused and unchanged.
+pub record MaskOutcome (key : HeaderKey) (sample : List ℕ) (n was : ℕ) (number_was : List ℕ) (result : Result ⊤ MaskError)
+    (now : ℕ) (number_now : List ℕ) : Type 0 where
+  pub accepted : IsOk result ↔ ((length sample ≡ 16) × (length number_was ≤ 4))
+  pub no_sample : IsErrOf result NoSample ↔ (length sample ≢ 16)
+  pub number_len : IsErrOf result NumberLength ↔ ((length sample ≡ 16) × (4 < length number_was))
+  pub masked : OnOk result (MaskedParts (header_protection key.algorithm key.bytes sample) n was number_was now number_now)
+  pub first_kept : OnErr result (now ≡ was)
+  pub number_kept : OnErr result (number_now ≡ number_was)
+
+-- Protecting reads the length of the packet number before the first byte is masked (section 5.4.1).
 abbrev pub Protected : HeaderKey → ℕ → List ℕ → List ℕ → Type 0
 Protected key number_at old new = Masked (mask_of key number_at old) number_at (number_len (slice_index old 0)) old new
 
--- unprotecting: the length is read after the first byte is unmasked (section 5.4.1)
+-- Unprotecting reads the length after the first byte is unmasked (section 5.4.1).
 abbrev pub Unprotected : HeaderKey → ℕ → List ℕ → List ℕ → Type 0
 Unprotected key number_at old new = Masked (mask_of key number_at old) number_at (number_len (slice_index new 0)) old new
 
--- these are the bytes that a mask may change: the first byte, and the four from the start of the packet number on (section 5.4.1)
+-- A mask may change these bytes of a header: the first byte, and the four from the start of the packet number on (section
+-- 5.4.1).
 pub record HasMaskedBytes (bytes : List ℕ) (number_at : ℕ) (packet : List ℕ) : Type 0 where
   pub first : slice_index bytes 0 ≡ slice_index packet 0
   pub number : (i : ℕ) → i < 4 → slice_index bytes (i + 1) ≡ slice_index packet (number_at + i)

@@ -31,7 +31,7 @@ header_bits version (Initial token) = (type_bits version).initial
 header_bits version ZeroRtt = (type_bits version).zero_rtt
 header_bits version Handshake = (type_bits version).handshake
 
--- the token, which an Initial packet alone has, after its length (section 17.2.2)
+-- Only an Initial packet has a token, which follows its length (section 17.2.2).
 abbrev pub token_of : LongType → List ℕ
 token_of (Initial token) = token.now
 token_of ZeroRtt = []
@@ -42,16 +42,17 @@ token_field (Initial token) = integer (fewest (length token.now)) (length token.
 token_field ZeroRtt = []
 token_field Handshake = []
 
--- Length: the bytes of the packet number and of the payload, which ends with a tag of 16 bytes (section 17.2, RFC 9001 section 5.3)
+-- The value of Length: the number of bytes of the packet number and of the payload, which ends with a tag of 16 bytes (section
+-- 17.2, RFC 9001 section 5.3).
 abbrev pub length_of : LongHeader → ℕ
 length_of header = header.number_len + header.payload_len + 16
 
--- the base-2 logarithm of its length: two bytes, or four from 2^14 on
+-- The base-2 logarithm of the length of Length: it has two bytes, or four from 2^14 on.
 abbrev pub length_log : ℕ → ℕ
 length_log n = if nat_lt n (2 ^ 14) then 1 else 2
 
--- the first byte of a long header: the header form 1, the fixed bit 1, the type, two reserved bits 0, and the length of the packet
--- number less one (section 17.2)
+-- the first byte of a long header: the header form 1, the fixed bit 1, the type, two reserved bits 0, and the length of the
+-- packet number less one (section 17.2)
 abbrev pub long_first_byte : (bits number_len : ℕ) → ℕ
 long_first_byte bits number_len = 0x80 + 0x40 + bits * 2 ^ 4 + (number_len - 1)
 
@@ -66,8 +67,8 @@ long_header header =
     ++ id_field header.destination_id.now ++ id_field header.source_id.now ++ token_field header.packet_type
     ++ integer (length_log (length_of header)) (length_of header)
 
--- the first byte of a short header: the header form 0, the fixed bit 1, the spin bit 0, two reserved bits 0, the key phase, and the
--- length of the packet number less one (section 17.3.1)
+-- the first byte of a short header: the header form 0, the fixed bit 1, the spin bit 0, two reserved bits 0, the key phase, and
+-- the length of the packet number less one (section 17.3.1)
 abbrev pub short_first_byte : (phase : Bool) (number_len : ℕ) → ℕ
 short_first_byte phase number_len = 0x40 + (if phase then 0x04 else 0) + (number_len - 1)
 
@@ -85,12 +86,12 @@ pub record HasShortIds (header : LongHeader) : Type 0 where
   pub destination : length header.destination_id.now ≤ 20
   pub source : length header.source_id.now ≤ 20
 
--- four bytes encode the token's length, and Length
+-- Four bytes encode the token's length and the value of Length.
 pub record HasShortFields (header : LongHeader) : Type 0 where
   pub token : length (token_of header.packet_type) < 2 ^ 30
   pub payload : length_of header < 2 ^ 30
 
--- a header that can be written
+-- A long header that can be written.
 pub record IsLongHeader (header : LongHeader) : Type 0 where
   pub number : IsNumberLen header.number_len
   pub ids : HasShortIds header
@@ -101,7 +102,7 @@ pub record IsShortHeader (header : ShortHeader) : Type 0 where
   pub number : IsNumberLen header.number_len
   pub id : length header.destination_id.now ≤ 20
 
--- a buffer with a field from a byte on
+-- A buffer in which a field was written from a byte on.
 abbrev pub with_field : ℕ → List ℕ → List ℕ → List ℕ
 with_field at field buffer = take at buffer ++ (field ++ drop (at + length field) buffer)
 
@@ -111,8 +112,9 @@ packet_type_of (Initial token) = InitialPacket
 packet_type_of ZeroRtt = ZeroRttPacket
 packet_type_of Handshake = HandshakePacket
 
--- The parts of a packet with this header that begins at the first byte of a datagram: its type and its version, the bytes of its
--- connection IDs and its token, the position of its number, and its end, to which Length counts from the number on (section 17.2).
+-- The parts of a packet with this header that begins at the first byte of a datagram: its type and its version, the bytes of
+-- its connection IDs and its token, the position of its number, and its end, to which Length counts from the number on (section
+-- 17.2).
 pub record HasLongParts (header : LongHeader) (datagram : List ℕ) (packet : Packet) : Type 0 where
   pub start : packet.start ≡ 0
   pub packet_type : packet.packet_type ≡ packet_type_of header.packet_type
@@ -123,7 +125,8 @@ pub record HasLongParts (header : LongHeader) (datagram : List ℕ) (packet : Pa
   pub number_at : packet.number_at ≡ Some (length (long_header header))
   pub end : packet.end ≡ length (long_header header) + length_of header
 
--- The same for a short header. Such a packet is the rest of the datagram (sections 12.2 and 17.3.1).
+-- The parts of a packet with this short header that begins at the first byte of a datagram. Such a packet is the rest of the
+-- datagram (sections 12.2 and 17.3.1).
 pub record HasShortParts (header : ShortHeader) (datagram : List ℕ) (packet : Packet) : Type 0 where
   pub start : packet.start ≡ 0
   pub packet_type : packet.packet_type ≡ OneRtt

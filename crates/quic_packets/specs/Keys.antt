@@ -1,4 +1,4 @@
--- Packet protection keys as contracts see them, and the keys of a secret.
+-- The packet protection keys and header protection keys that contracts speak of, and those of a secret.
 use Rattle.std.specs.Prelude.{ℕ, List}
 use Rattle.aead_ciphers.specs.declared.aead.algorithm.Algorithm.{Algorithm}
 use Rattle.aead_ciphers.specs.HeaderProtection.{HeaderKey}

@@ -7,12 +7,13 @@ abbrev pub IsAbove : ℕ → Option ℕ → Type 0
 IsAbove number None = Unit {0}
 IsAbove number (Some largest) = largest < number
 
--- how many numbers may be unacknowledged once this one is sent: those above the largest acknowledged one, up to it (A.2)
+-- The number of packet numbers that may be unacknowledged once this one is sent: those above the largest acknowledged one, up
+-- to this one (A.2).
 abbrev pub unacknowledged : ℕ → Option ℕ → ℕ
 unacknowledged number None = number + 1
 unacknowledged number (Some largest) = number - largest
 
--- n bytes represent more than twice as many numbers (section 17.1)
+-- In n bytes, more than twice as many numbers can be represented (section 17.1).
 abbrev pub Represents : ℕ → ℕ → Type 0
 Represents n numbers = 2 * numbers < 2 ^ (8 * n)
 

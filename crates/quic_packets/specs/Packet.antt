@@ -18,8 +18,8 @@ EndsWithTag key nonce header body = let n = length body - 16 in drop n body ≡ 
 abbrev pub IsGenuine : (key nonce : List ℕ) (header_len : ℕ) → List ℕ → Type 0
 IsGenuine key nonce header_len packet = EndsWithTag key nonce (take header_len packet) (drop header_len packet)
 
--- the packet number ends the header, from byte `start` up to `end`: it comes after the first byte, and is as long as that byte
--- says (RFC 9000 sections 17.2 and 17.3.1)
+-- The packet number is the end of the header, from byte `start` up to `end`. It begins after the first byte, and is as long as
+-- that byte says (RFC 9000 sections 17.2 and 17.3.1).
 pub record HasNumber (start end : ℕ) (packet : List ℕ) : Type 0 where
   pub first_byte : 0 < start
   pub len : end ≡ start + number_len (slice_index packet 0)

@@ -1,4 +1,5 @@
--- Receiving packets: the keys of two phases (RFC 9001 section 6), and the outcome of a packet.
+-- The state of a receiver, with the keys of up to three phases (RFC 9001 section 6), and what becomes of a packet that it is
+-- given.
 use Rattle.std.specs.Prelude.{◌≡◌, ◌≢◌, ℕ, ◌+◌, ◌-◌, ◌<◌, ◌≤◌, ◌==◌, ◌↔◌, if◌then◌else◌, min, max, Bool, true, false, not, nat_lt, List, length, slice_index, slice_range, bit_and, Option, None, Some, IsSome, is_some, unwrap_or, Result, IsOk, IfOk, OnOk, ◌⊎◌, IsTrue, IsFalse, IfErr, OnErr, Err}
 use Rattle.std.specs.Int.Digits.{number_from_digits}
 use Rattle.aead_ciphers.specs.Counting.{xored_nonce}
@@ -19,20 +20,26 @@ use Rattle.quic_packets.specs.declared.receive_error.ReceiveError.{ReceiveError}
 use Rattle.quic_packets.specs.declared.receive_error.ReceiveError.TheVariants.{Duplicate, KeyUpdate, NoFrames, Refused, ReservedBits, TooLong, PastEnd, OtherVersion, NoNumber, NumberAtFirstByte, NoSample, TooManyFailures}
 use Rattle.quic_packets.specs.declared.receiver.Received.{Received}
 
--- a receiver: its version; the header key; if it is made of a secret, that of its next packet key or, until this is set, of its
--- current one; the packet key of its phase, the next one if it is given, and the previous one if it is kept; its Key Phase bit;
--- the lowest and highest number opened in this phase, where the lowest is 0 in the first phase; and the highest numbers opened
--- under the previous key and under the keys before that one. A highest number is 0 if there is none.
+-- The state of a receiver. A highest number is 0 if there is none.
 pub record Receiver : Type 0 where
+  -- the version of its packets
   pub version : Version
+  -- the header key
   pub header : HeaderKey
+  -- the secret of the next packet key or, until that is set, of the current one, if the receiver was created from a secret
   pub secret : Option QuicSecretState
+  -- the packet key of this phase
   pub current : PacketKey
+  -- the packet key of the next phase, if it is set
   pub next : Option PacketKey
+  -- the packet key of the previous phase, if it is kept
   pub previous : Option PacketKey
+  -- the Key Phase bit of this phase
   pub phase : Bool
+  -- the lowest and the highest number that was opened in this phase, where the lowest is 0 in the first phase
   pub lowest : ℕ
   pub highest : ℕ
+  -- the highest number that was opened under the previous key, and under the keys before that one
   pub highest_previous : ℕ
   pub highest_earlier : ℕ
 
@@ -52,7 +59,7 @@ new_receiver version header key secret = record {
   highest_earlier = 0;
 }
 
--- the receiver with its next key, which is of the secret after the one that is held (RFC 9001 section 6.1), unless it is set
+-- The receiver with its next key, unless that is set: the key of the secret after the one that is held (RFC 9001 section 6.1).
 abbrev pub with_next : Receiver → QuicSecretState → Receiver
 with_next r held =
     let next = next_quic_secret held in
@@ -71,12 +78,12 @@ is_other_phase r first = bit_and first 0x84 == (if r.phase then 0x00 else 0x04)
 abbrev pub key_of : Receiver → ℕ → ℕ → Option PacketKey
 key_of r first number = if is_other_phase r first then (if nat_lt number r.lowest then r.previous else r.next) else Some r.current
 
--- the key that a packet is opened with: another one if its own is not held, so that the time does not reveal this (section
--- 6.3)
+-- The key with which a packet is opened. If its own is not held, this is another one, so that the time doesn't reveal it
+-- (section 6.3).
 abbrev pub opening_key : Receiver → ℕ → ℕ → PacketKey
 opening_key r first number = unwrap_or (key_of r first number) r.current
 
--- the highest number that was opened under the keys before the packet's key
+-- The highest number that was opened under keys before the packet's key.
 abbrev pub highest_before : Receiver → ℕ → ℕ → ℕ
 highest_before r first number =
     if is_other_phase r first then (if nat_lt number r.lowest then r.highest_earlier else r.highest) else r.highest_previous
@@ -87,7 +94,8 @@ pub record IsInTurn (r : Receiver) (first number : ℕ) : Type 0 where
   pub held : IsSome (key_of r first number)
   pub later : highest_before r first number ≤ number
 
--- the receiver after the next key first opened a packet: the keys move on (section 6.2)
+-- The receiver after the next key first opened a packet: the next key becomes the current one, and the current one the previous
+-- (section 6.2).
 abbrev pub updated : Receiver → ℕ → Option PacketKey → Receiver
 updated r number None = r
 updated r number (Some key) =
@@ -117,8 +125,8 @@ reserved_bits first = bit_and first (if bit_and first 0x80 == 0x80 then 0x0c els
 abbrev pub header_len : ℕ → List ℕ → ℕ
 header_len number_at plain = number_at + number_len (slice_index plain 0)
 
--- What is read of a packet before it is opened: the packet with its header unmasked (RFC 9001 section 5.4), and its number,
--- decoded from the header (RFC 9000 appendix A.3).
+-- What is read of a packet before it is opened: `plain`, the packet with its header unmasked (RFC 9001 section 5.4), and
+-- `number`, which is decoded from the header (RFC 9000 appendix A.3).
 pub record Reads (key : HeaderKey) (expected number_at : ℕ) (wire plain : List ℕ) (number : ℕ) : Type 0 where
   pub sample : HasSample number_at (length wire)
   pub unmasked : Unprotected key number_at wire plain
@@ -132,13 +140,13 @@ pub record IsAuthentic (r : Receiver) (number_at : ℕ) (plain : List ℕ) (numb
   pub genuine : (let key = opening_key r (slice_index plain 0) number in
       IsGenuine key.bytes (xored_nonce key.iv number) (header_len number_at plain) plain)
 
--- the packet after opening: the plaintext payload follows the header
+-- The packet after it is opened: the plaintext payload follows the header.
 abbrev pub Opens : (r : Receiver) (number_at : ℕ) (plain : List ℕ) (number : ℕ) → List ℕ → Type 0
 Opens r number_at plain number opened =
     let key = opening_key r (slice_index plain 0) number in
     OpenedPacket key.bytes (xored_nonce key.iv number) (header_len number_at plain) plain true opened
 
--- what is returned of a packet that is received, and begins at byte `start` of its datagram
+-- What is returned for a packet that is received and begins at byte `start` of its datagram.
 abbrev pub of_packet : (start number_at : ℕ) (plain : List ℕ) (number : ℕ) → Received
 of_packet start number_at plain number = record {
   number = number;
@@ -146,10 +154,10 @@ of_packet start number_at plain number = record {
   phase = has_phase (slice_index plain 0);
 }
 
--- The reasons for which a packet is rejected. Each definition gives the reason for each error, and ⊥ for an error that doesn't come.
--- No two reasons of a definition hold for one packet.
+-- The reasons for which a packet is rejected. Each definition gives the reason for each error, and ⊥ for an error that never
+-- comes. No two reasons of a definition hold for one packet.
 
--- why a receiver doesn't read a packet of a datagram that has `len` bytes
+-- The reason for which a receiver doesn't read a packet of a datagram that has `len` bytes.
 abbrev pub EarlyRefuses : (r : Receiver) (f : Failures) (parts : Packet) (len : ℕ) → ReceiveError → Type 0
 EarlyRefuses r f parts len TooManyFailures = f.limit ≤ f.count
 EarlyRefuses r f parts len PastEnd = (f.count < f.limit) × (len < parts.end)
@@ -164,46 +172,46 @@ EarlyRefuses r f parts len NoSample = (f.count < f.limit) × (parts.end ≤ len)
     × (parts.end - parts.start < number_in parts + 20)
 EarlyRefuses r f parts len error = ⊥
 
--- A receiver reads the packet with these parts: the limit of failures isn't reached, and the packet ends within the datagram, has no
--- other version, and is long enough for a sample.
+-- A receiver reads the packet with these parts: the limit of failures isn't reached, and the packet ends within the datagram,
+-- has no other version, and is long enough for a sample.
 pub record IsReadable (r : Receiver) (f : Failures) (parts : Packet) (len : ℕ) : Type 0 where
   pub receiving : f.count < f.limit
   pub within : parts.end ≤ len
   pub of_version : IsFalse (is_other_version r.version parts.version)
   pub sample : HasSample (number_in parts) (parts.end - parts.start)
 
--- why a packet that is read isn't opened
+-- The reason for which a packet that is read isn't opened.
 abbrev pub OpenRefuses : (r : Receiver) (number_at : ℕ) (plain : List ℕ) (number : ℕ) → ReceiveError → Type 0
 OpenRefuses r number_at plain number TooLong = ¬ PacketFits (header_len number_at plain) (length plain)
 OpenRefuses r number_at plain number Refused =
     PacketFits (header_len number_at plain) (length plain) × ¬ IsAuthentic r number_at plain number
 OpenRefuses r number_at plain number error = ⊥
 
--- why a packet that is opened, with this first byte, isn't received
-abbrev pub AdmitRefuses : (r : Receiver) (s : Space) (first : ℕ) (packet : Received) → ReceiveError → Type 0
-AdmitRefuses r s first packet ReservedBits = reserved_bits first ≢ 0
-AdmitRefuses r s first packet Duplicate = (reserved_bits first ≡ 0) × ¬ IsNew s packet.number
-AdmitRefuses r s first packet KeyUpdate =
+-- The reason for which a packet that is opened, with this first byte, isn't received.
+abbrev pub AcceptRefuses : (r : Receiver) (s : Space) (first : ℕ) (packet : Received) → ReceiveError → Type 0
+AcceptRefuses r s first packet ReservedBits = reserved_bits first ≢ 0
+AcceptRefuses r s first packet Duplicate = (reserved_bits first ≡ 0) × ¬ IsNew s packet.number
+AcceptRefuses r s first packet KeyUpdate =
     (reserved_bits first ≡ 0) × IsNew s packet.number × ¬ IsInTurn r first packet.number
-AdmitRefuses r s first packet NoFrames = (reserved_bits first ≡ 0) × IsNew s packet.number × IsInTurn r first packet.number
+AcceptRefuses r s first packet NoFrames = (reserved_bits first ≡ 0) × IsNew s packet.number × IsInTurn r first packet.number
     × (packet.payload.end ≤ packet.payload.start)
-AdmitRefuses r s first packet error = ⊥
+AcceptRefuses r s first packet error = ⊥
 
--- why a packet that is read isn't received
+-- The reason for which a packet that is read isn't received.
 abbrev pub ReadRefuses : (r : Receiver) (s : Space) (start number_at : ℕ) (plain : List ℕ) (number : ℕ) → ReceiveError → Type 0
 ReadRefuses r s start number_at plain number error = OpenRefuses r number_at plain number error
     ⊎ (IsAuthentic r number_at plain number
-    × AdmitRefuses r s (slice_index plain 0) (of_packet start number_at plain number) error)
+    × AcceptRefuses r s (slice_index plain 0) (of_packet start number_at plain number) error)
 
--- A packet that is opened, with this first byte, is received: its reserved bits are 0 (RFC 9000 sections 17.2 and 17.3.1), its number
--- is new (section 12.3), its key is in turn, and its payload is not empty (section 12.4).
-pub record IsAdmitted (r : Receiver) (s : Space) (first : ℕ) (packet : Received) : Type 0 where
+-- A packet that is opened, with this first byte, is received: its reserved bits are 0 (RFC 9000 sections 17.2 and 17.3.1), its
+-- number is new (section 12.3), its key is in turn, and its payload is not empty (section 12.4).
+pub record IsAcceptable (r : Receiver) (s : Space) (first : ℕ) (packet : Received) : Type 0 where
   pub unreserved : reserved_bits first ≡ 0
   pub new : IsNew s packet.number
   pub in_turn : IsInTurn r first packet.number
   pub frames : packet.payload.start < packet.payload.end
 
--- what becomes of a packet that is read, when it is opened: its first byte and its parts, or an error
+-- The outcome of opening a packet that is read: its first byte and what is returned for it, or an error.
 pub record Opening (r : Receiver) (start number_at : ℕ) (plain : List ℕ) (number : ℕ) (result : Result (ℕ × Received) ReceiveError)
     (opened : List ℕ) : Type 0 where
   pub accepted : IsOk result ↔ IsAuthentic r number_at plain number
@@ -211,12 +219,12 @@ pub record Opening (r : Receiver) (start number_at : ℕ) (plain : List ℕ) (nu
   pub opens : OnOk result (Opens r number_at plain number opened)
   pub returns : IfOk result (λ packet. packet ≡ (slice_index plain 0, of_packet start number_at plain number))
 
--- What becomes of a packet that is read: it is received, or rejected for a reason. An authentic packet is opened in place, even if it
--- is then rejected.
+-- The outcome of a packet that is read: it is received, or rejected for a reason. An authentic packet is opened in place, even
+-- if it is then rejected.
 pub record Outcome (r : Receiver) (s : Space) (start number_at : ℕ) (plain : List ℕ) (number : ℕ) (result : Result Received ReceiveError)
     (r' : Receiver) (opened : List ℕ) : Type 0 where
   pub accepted : IsOk result ↔ (IsAuthentic r number_at plain number
-      × IsAdmitted r s (slice_index plain 0) (of_packet start number_at plain number))
+      × IsAcceptable r s (slice_index plain 0) (of_packet start number_at plain number))
   pub refused : IfErr result (ReadRefuses r s start number_at plain number)
   pub opens : IsAuthentic r number_at plain number → Opens r number_at plain number opened
   pub returns : IfOk result (λ packet. packet ≡ of_packet start number_at plain number)
@@ -230,14 +238,14 @@ is_of_opened KeyUpdate = true
 is_of_opened NoFrames = true
 is_of_opened _ = false
 
--- the packets that have failed authentication, with this one
+-- The count of packets that have failed authentication, once a packet with this result is counted.
 abbrev pub failures_after : Failures → Result Received ReceiveError → Failures
 failures_after f (Err Refused) = record f { count = f.count + 1 }
 failures_after f result = f
 
--- What becomes of the packet with these parts of a datagram when it is given to a receiver: the result, and the receiver, the space
--- of numbers, the failures and the datagram after the call. `refused` and `readable` say whether the packet was read, and `read` what
--- follows if it was.
+-- The outcome of giving a packet with these parts of a datagram to a receiver: the result, and the receiver, the space of
+-- numbers, the count of failures and the datagram after the call. `refused` and `readable` say whether the packet was read, and
+-- `read` what follows if it was.
 pub record ReceiveOutcome (r : Receiver) (s : Space) (f : Failures) (parts : Packet) (old : List ℕ)
     (result : Result Received ReceiveError) (r' : Receiver) (s' : Space) (f' : Failures) (new : List ℕ) : Type 0 where
   pub readable : OnOk result (IsReadable r f parts (length old))

@@ -5,7 +5,7 @@ use Rattle.quic_packets.specs.Keys.{PacketKey, secret_header_key, secret_key}
 use Rattle.quic_packets.specs.Receiving.{Receiver, new_receiver, updated, with_next}
 use Rattle.quic_packets.specs.Sending.{Sender, after_derived_update, new_sender}
 
--- the secret after so many key updates (section 6.1)
+-- The secret after n key updates (section 6.1).
 abbrev pub secret_after : QuicSecretState → ℕ → QuicSecretState
 secret_after secret zero = secret
 secret_after secret (suc n) = next_quic_secret (secret_after secret n)

@@ -23,25 +23,33 @@ use Rattle.quic_packets.specs.declared.send_error.SendError.{SendError}
 use Rattle.quic_packets.specs.declared.send_error.SendError.TheVariants.{EmptyPayload, KeyUsedUp, NoFixedBit, NoProtection, NoSample, NumberAtFirstByte, NumberLength, NumberTooFar, NumbersEnded, OtherVersion, TooLong, TooShort}
 use Rattle.quic_packets.specs.declared.skipped.Gap.{Gap}
 
--- a sender: its version; its key and header key, and the secret of the key, if it is made of one; the next number, and the
--- largest acknowledged one of its space; the ranges of skipped numbers that are kept; the Key Phase bit; how many packets this
--- key has sealed and may seal; the first number of this phase from which on each skipped number is in one of these ranges; the
--- next number when this phase began; whether the keys were never updated or a packet of this phase is acknowledged; and whether
--- the handshake is confirmed
+-- The state of a sender.
 pub record Sender : Type 0 where
+  -- the version of its packets
   pub version : Version
+  -- the key and the header key under which it sends
   pub key : PacketKey
   pub header_key : HeaderKey
+  -- the secret of the key, if the sender was created from one
   pub secret : Option QuicSecretState
+  -- the number of the next packet
   pub next : ℕ
+  -- the largest acknowledged number of its space
   pub largest : Option ℕ
+  -- the ranges of skipped numbers that are kept
   pub skipped : List Gap
+  -- the Key Phase bit
   pub phase : Bool
+  -- how many packets the key has sealed, and how many it may seal
   pub sealed : ℕ
   pub limit : ℕ
+  -- the lowest number of this phase from which on each skipped number is in one of the ranges
   pub first : ℕ
+  -- the next number when this phase began
   pub first_of_phase : ℕ
+  -- the keys were never updated, or a packet of this phase is acknowledged
   pub acknowledged : Bool
+  -- the handshake is confirmed
   pub confirmed : Bool
 
 -- keys with the lengths of a suite
@@ -100,8 +108,8 @@ numbered_packet phase number start end packet =
 abbrev pub header_version : List ℕ → Option ℕ
 header_version packet = if is_long (slice_index packet 0) then Some (version_of packet 0) else None
 
--- a packet that can be sealed and protected in this version, whatever its number: its payload is not empty (RFC 9000 section
--- 12.4)
+-- A packet that can be sealed and protected in this version, whatever its number. Its payload is not empty (RFC 9000 section
+-- 12.4).
 pub record IsSealable (version : Version) (fixed_bit : FixedBit) (start end : ℕ) (packet : List ℕ) : Type 0 where
   pub fits : PacketFits end (length packet)
   pub sample : HasSample start (length packet)
@@ -131,7 +139,7 @@ pub record IsInTurn (s : Sender) (start end : ℕ) : Type 0 where
   pub encodable : IsEncodable s
   pub room : IsRoom s.next s.largest start end
 
--- a packet is sent: the next number is written, and the packet is sealed and protected
+-- The packet is sent: the next number is written to it, and it is sealed and protected.
 abbrev pub IsSent : Sender → (start end : ℕ) → List ℕ → List ℕ → Type 0
 IsSent s start end old new =
     Protected s.header_key start
@@ -143,7 +151,8 @@ IsSent s start end old new =
 abbrev pub after_send : Sender → Sender
 after_send s = record s { next = s.next + 1; sealed = s.sealed + 1 }
 
--- after a skip: the numbers that are left unused, if there are any, are kept as a range, for which one may be forgotten
+-- The state after a skip. The numbers that are left unused, if there are any, are kept as a range, for which another one may be
+-- forgotten.
 abbrev pub after_skip : Sender → ℕ → Sender
 after_skip s number = record s {
   next = number;
@@ -161,19 +170,20 @@ raised (Some largest) number = Some (max largest number)
 abbrev pub is_unsent : Sender → ℕ → Bool
 is_unsent s number = nat_le s.next number || is_skipped s.skipped number
 
--- After an acknowledgment of a number that is not known as unsent. It allows an update if the number is of this phase, and not so
--- low that a range which was forgotten may have it (RFC 9001 section 6.1).
+-- The state after an acknowledgment of a number that is not known as unsent. It allows a key update if the number is of this
+-- phase, and not so low that it may lie in a range that was forgotten (RFC 9001 section 6.1).
 abbrev pub after_acknowledgement : Sender → ℕ → Sender
 after_acknowledgement s number =
     record s { largest = raised s.largest number; acknowledged = s.acknowledged || nat_le s.first number }
 
--- An acknowledgment of a packet of this phase came in a packet of the other phase, so of older keys, once this endpoint has
--- followed the peer's updates (RFC 9001 section 6.2).
+-- The packet that is acknowledged is of this phase, and the acknowledgment came in a packet of the other phase. That packet is
+-- of older keys, once this endpoint has followed the peer's updates (RFC 9001 section 6.2).
 pub record IsUnanswered (s : Sender) (number : ℕ) (phase : Bool) : Type 0 where
   pub of_phase : s.first_of_phase ≤ number
   pub older : phase ≢ s.phase
 
--- after a key update: new keys except the header key, the other phase, and the count 0 again (RFC 9001 sections 6 and 6.6)
+-- The state after a key update: the packet key is new, the header key stays, the key phase is the other one, and the count
+-- begins at 0 again (RFC 9001 sections 6 and 6.6).
 abbrev pub after_update : Sender → PacketKey → Option QuicSecretState → Sender
 after_update s key secret = record s {
   key = key;
@@ -185,20 +195,21 @@ after_update s key secret = record s {
   acknowledged = false;
 }
 
--- after a key update to the secret after the one that is held (RFC 9001 section 6.1)
+-- The state after a key update to the secret that follows the one held (RFC 9001 section 6.1).
 abbrev pub after_derived_update : Sender → QuicSecretState → Sender
 after_derived_update s held = let next = next_quic_secret held in after_update s (secret_key next) (Some next)
 
--- with the keys of 1-RTT after those of 0-RTT, or those of Initial packets after a Retry, whose space of numbers continues (RFC
--- 9000 sections 12.3 and 17.2.5.3)
+-- The state after other keys are installed: the keys of 1-RTT packets after those of 0-RTT packets, or other keys of Initial
+-- packets after a Retry packet. The packet numbers continue (RFC 9000 sections 12.3 and 17.2.5.3).
 abbrev pub with_installed_keys : Sender → Version → PacketKey → HeaderKey → Option QuicSecretState → Sender
 with_installed_keys s version key header_key secret =
     record (new_sender version key header_key secret s.next) { largest = s.largest; skipped = s.skipped; limit = s.limit }
 
--- The reasons for which a packet is refused. Each definition gives the reason for each error, and ⊥ for an error that doesn't come.
--- No two reasons hold for one packet.
+-- The reasons for which a packet is refused. Each definition gives the reason for each error, and ⊥ for an error that never
+-- comes. No two reasons hold for one packet.
 
--- why a packet whose number is written from byte `start` up to `end` can't be sealed and protected in this version
+-- The reason for which a packet whose number is written from byte `start` up to `end` can't be sealed and protected in this
+-- version.
 abbrev pub PacketRefuses : (version : Version) (fixed_bit : FixedBit) (start end : ℕ) (packet : List ℕ) → SendError → Type 0
 PacketRefuses version fixed_bit start end packet TooShort = length packet < end + 16
 PacketRefuses version fixed_bit start end packet TooLong = (end + 16 ≤ length packet) × ¬ Fits end (length packet - 16 - end)
@@ -220,7 +231,7 @@ PacketRefuses version fixed_bit start end packet EmptyPayload =
     × IsFalse (lacks_fixed_bit fixed_bit (header_version packet) (slice_index packet 0)) × (length packet ≡ end + 16)
 PacketRefuses version fixed_bit start end packet error = ⊥
 
--- why a sender has no number for a packet, or none that is written from byte `start` up to `end`
+-- The reason for which a sender has no number for a packet, or none that can be written from byte `start` up to `end`.
 abbrev pub NumberRefuses : (s : Sender) (start end : ℕ) → SendError → Type 0
 NumberRefuses s start end KeyUsedUp = s.limit ≤ s.sealed
 NumberRefuses s start end NumbersEnded = (s.sealed < s.limit) × (s.next ≡ 2 ^ 62)
@@ -228,23 +239,23 @@ NumberRefuses s start end NumberTooFar = IsOpen s × ¬ IsEncodable s
 NumberRefuses s start end NumberLength = IsOpen s × IsEncodable s × ¬ IsRoom s.next s.largest start end
 NumberRefuses s start end error = ⊥
 
--- why a sender doesn't send a packet whose number is written from byte `start` up to `end`
+-- The reason for which a sender doesn't send a packet whose number is written from byte `start` up to `end`.
 abbrev pub SenderRefuses : (s : Sender) (fixed_bit : FixedBit) (start end : ℕ) (packet : List ℕ) → SendError → Type 0
 SenderRefuses s fixed_bit start end packet error = PacketRefuses s.version fixed_bit start end packet error
     ⊎ (IsSealable s.version fixed_bit start end packet × NumberRefuses s start end error)
 
--- how many packets the key may still seal (RFC 9001 section 6.6)
+-- The number of packets that the key may still seal (RFC 9001 section 6.6).
 abbrev pub left : Sender → ℕ
 left s = s.limit - s.sealed
 
--- What becomes of a packet that a caller sends, if it keeps `kept_back` packets of the sender's key for others. The packet is sent,
--- `returned` is returned, and the caller's state becomes `after`; or it is refused for a reason, and neither the packet nor the
--- caller's state changes.
-pub record SendOutcome {T State : Type 0} (s : Sender) (kept_back : ℕ) (fixed_bit : FixedBit) (start end : ℕ)
+-- The outcome of sending a packet for a caller that keeps `kept_for_close` packets of the sender's key for the packet that
+-- closes the connection. Either the packet is sent, `returned` is returned, and the caller's state becomes `after`; or it is
+-- refused for a reason, and neither the packet nor the caller's state changes.
+pub record SendOutcome {T State : Type 0} (s : Sender) (kept_for_close : ℕ) (fixed_bit : FixedBit) (start end : ℕ)
     (Refuses : SendError → Type 0) (old new : List ℕ) (result : Result T SendError) (returned : T) (before now after : State)
     : Type 0 where
   pub accepted : IsOk result
-      ↔ ((kept_back < left s) × IsSealable s.version fixed_bit start end old × IsInTurn s start end)
+      ↔ ((kept_for_close < left s) × IsSealable s.version fixed_bit start end old × IsInTurn s start end)
   pub refused : IfErr result Refuses
   pub sent : OnOk result (IsSent s start end old new)
   pub returns : IfOk result (λ value. value ≡ returned)

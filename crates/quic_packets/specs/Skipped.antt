@@ -1,5 +1,5 @@
--- The packet numbers that a sender has skipped: the highest eight ranges of them, the last one first. Before there are eight, the
--- others are empty.
+-- The packet numbers that a sender has skipped: the eight highest ranges of them, the last one first. Until there are eight,
+-- the rest are empty.
 use Rattle.std.specs.Prelude.{ℕ, Bool, nat_le, nat_lt, max, ◌==◌, ◌&&◌, if◌then◌else◌, List, [], ◌∷◌, replicate, take, drop}
 use Rattle.std.specs.List.{list_any}
 use Rattle.quic_packets.specs.declared.skipped.Gap.{Gap}
@@ -28,7 +28,7 @@ abbrev pub highest_end : List Gap → ℕ
 highest_end [] = 0
 highest_end (gap ∷ gaps) = max gap.end (highest_end gaps)
 
--- the end of the range that is forgotten then, or 0
+-- The end of the range that is then forgotten, or 0 if none is.
 abbrev pub forgotten : List Gap → (start : ℕ) → ℕ
 forgotten [] start = 0
 forgotten (last ∷ lower) start = if last.end == start then 0 else highest_end (drop 7 (last ∷ lower))

@@ -1,4 +1,4 @@
--- The algorithms of a suite (RFC 9001 sections 5.3 and 5.4.3).
+-- The algorithms of a suite, for payloads and for headers (RFC 9001 sections 5.3 and 5.4.3).
 use Rattle.aead_ciphers.specs.declared.aead.algorithm.Algorithm.{Algorithm}
 use Rattle.aead_ciphers.specs.declared.aead.algorithm.TheConstants.{AES_128_GCM, AES_256_GCM}
 use Rattle.aead_ciphers.specs.declared.aead.quic.Algorithm.{Algorithm as HeaderAlgorithm}

@@ -1,4 +1,5 @@
--- What depends on the version in a long header (RFC 9000 section 17.2, RFC 9369 sections 3.1 and 3.2).
+-- The parts of a long header that depend on its version: the type bits, and the version number (RFC 9000 section 17.2, RFC 9369
+-- sections 3.1 and 3.2).
 use Rattle.std.specs.Prelude.{ℕ, ◌/◌, ◌%◌, ◌^◌, Bool, false, not, ◌==◌, if◌then◌else◌, Option, None, Some}
 use Rattle.key_derivation.specs.Quic.{version_number}
 use Rattle.key_derivation.specs.declared.quic.Version.{Version}
@@ -12,7 +13,7 @@ abbrev pub type_bits : Version → TypeBits
 type_bits One = record { initial = 0; zero_rtt = 1; handshake = 2; retry = 3 }
 type_bits Two = record { initial = 1; zero_rtt = 2; handshake = 3; retry = 0 }
 
--- the type with these bits
+-- The packet type that these type bits have in this version.
 abbrev pub type_of : Version → (bits : ℕ) → PacketType
 type_of version bits =
     let types = type_bits version in
@@ -23,7 +24,7 @@ type_of version bits =
 abbrev pub bits_of : (first : ℕ) → ℕ
 bits_of first = first / 2 ^ 4 % 4
 
--- a long header with the number of another version. A short header has none (RFC 8999 section 5).
+-- The header has the number of another version. A short header has no version number (RFC 8999 section 5).
 abbrev pub is_other_version : Version → (number : Option ℕ) → Bool
 is_other_version version None = false
 is_other_version version (Some number) = not (number == version_number version)

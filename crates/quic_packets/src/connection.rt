@@ -1,12 +1,12 @@
-//! One end of a connection, client or server: the keys of its levels, over key updates, and one count of failures (RFC 9000
-//! section 12, RFC 9001 sections 4.9, 5.7 and 6).
+//! One endpoint of a connection, client or server: it sends and receives the packets of each encryption level, updates the
+//! keys, and counts the packets that fail authentication (RFC 9000 section 12, RFC 9001 sections 4.9, 5.7 and 6).
 //!
-//! The caller installs the secrets that TLS gives, writes headers and frames, and passes on acknowledgments, the confirmation of
-//! the handshake and its timer.
+//! The caller installs the secrets that TLS gives, writes headers and frames, and reports acknowledgments, the confirmation of
+//! the handshake and the expiry of its timer.
 
 ghost use Rattle.std.specs.Prelude.{◌≡◌, ◌-◌, ◌^◌, ◌<◌, ◌≤◌, ◌↔◌, ◌&&◌, false, true, min, length, if◌then◌else◌, Some, None, IsFalse, IsTrue, IsSome, IfSome, IsOk, IfOk, IfErr, IsErrOf, OnOk, OnErr};
 ghost use Rattle.std.specs.Option.{option_copied};
-ghost use Rattle.quic_packets.specs.Connection.{IsOwn, IsToOpen, IsUnopened, StepOutcome, end_of, ends_of, has_keys, after_sending, kept_at, is_discarded, is_one_rtt, receiver_of, sender_after, space_of, update_after, updates_after, with_ends, with_receiver, with_sender};
+ghost use Rattle.quic_packets.specs.Connection.{IsOwn, IsToOpen, IsUnopened, StepOutcome, after_sending, ends_of, is_discarded, is_one_rtt, kept_for_close_at, next_packet_at, receiver_of, sender_after, space_of, type_has_keys, update_after, updates_after, with_ends, with_receiver, with_sender};
 ghost use Rattle.quic_packets.specs.Ends.{EndOutcome, Installs, after_discard, confirmed, forgotten, initiated, installed, is_confirmed, may_update, no_ends, prepared, sent};
 ghost use Rattle.quic_packets.specs.Keys.{secret_header_key, secret_key};
 ghost use Rattle.quic_packets.specs.Receiving.{ReceiveOutcome, new_receiver};
@@ -29,12 +29,13 @@ use crate::space::Space;
 use ends::Ends;
 pub use ends::SentPacket;
 pub use incoming::{Incoming, PeerUpdate, Step};
-use incoming::{Opened, step_of};
+use incoming::{Attempt, step_or_close};
 use key_derivation::quic::QuicSecret;
 use std::marker::Model;
 use std::ops::Range;
 
-/// An encryption level with a space of packet numbers (RFC 9000 section 12.3). 0-RTT packets share the space of 1-RTT packets.
+/// An encryption level with a packet number space of its own (RFC 9000 section 12.3). 0-RTT packets share the space of 1-RTT
+/// packets.
 #[derive(Clone, Copy, PartialEq, Eq, Debug)]
 pub enum Level {
     /// Initial packets.
@@ -45,10 +46,12 @@ pub enum Level {
     OneRtt,
 }
 
-/// One end of a connection: for each level a sender and a receiver, which are there or not, and the numbers received.
+/// One endpoint of a connection. For each encryption level it has a sender and a receiver, once their keys are installed, and
+/// the packet numbers that were received.
 ///
-/// The window of each level has the `64 * W` numbers up to the largest that was received (`Space`), where `W` is from 2 to 64. A
-/// packet whose number is below the window is dropped as a duplicate, and the ranges of an ACK frame reach no further down.
+/// The window of each level has the `64 * W` numbers up to the largest that was received (see `Space`), where `W` is from 2 to
+/// 64. A packet whose number is below the window is dropped as a duplicate, and the ranges of an ACK frame do not reach below
+/// it.
 ///
 /// An error of `receive` or `acknowledged` with a code (`ReceiveError::code`, `NumberError::code`) closes the connection.
 #[derive(Drop)]
@@ -57,7 +60,7 @@ pub struct Connection<const W: usize> {
     handshake: Ends<W>,
     one_rtt: Ends<W>,
     zero_rtt: Option<Receiver>,
-    /// Whether the keys of 0-RTT packets were dropped or are not taken, so that none can be installed.
+    /// Whether the keys of 0-RTT packets were discarded, or there never will be any, so that none can be installed.
     is_zero_rtt_discarded: bool,
     failures: Failures,
     limit: u64,
@@ -86,11 +89,12 @@ impl<const W: usize> Model for Connection<W> {
 }
 
 impl<const W: usize> Connection<W> {
-    /// Creates an end without keys, whose keys may each seal 2^23 packets, and which takes 2^52 failures (RFC 9001 section 6.6).
+    /// Creates an endpoint without keys. Each key that is installed may seal 2^23 packets, and 2^52 packets may fail
+    /// authentication (RFC 9001 section 6.6).
     ///
-    /// `fixed_bit` is what the fixed bit of a packet that arrives must be: `Greased` if this end sends the transport parameter
-    /// `grease_quic_bit` (RFC 9287 section 3). The fixed bit of a packet that is sent must be 1 until `set_peer_fixed_bit`
-    /// allows 0.
+    /// `fixed_bit` is what the fixed bit of a packet that arrives must be: `Greased` if this endpoint sends the transport
+    /// parameter `grease_quic_bit` (RFC 9287 section 3). The fixed bit of a packet that is sent must be 1 until
+    /// `set_peer_fixed_bit` allows 0.
     pub fn new(fixed_bit: FixedBit) -> Self
         requires some { 2 ≤ W }
         requires few { W ≤ 64 }
@@ -119,8 +123,8 @@ impl<const W: usize> Connection<W> {
         }
     }
 
-    /// Lowers the number of packets that each key may seal to `limit`, for senders that are created after it. A higher limit has
-    /// no effect.
+    /// Lowers the number of packets that each key may seal to `limit`, for senders that are created after this call. A higher
+    /// limit has no effect.
     pub fn with_limit(mut self, limit: u64) -> Self
         ensures { result ≡ record self.entry { limit = min self.entry.limit limit } }
     {
@@ -138,9 +142,9 @@ impl<const W: usize> Connection<W> {
         self
     }
 
-    /// Sets what the fixed bit of a packet that is sent must be. It is `Required` at first, and `Greased` once this end has
-    /// processed the peer's transport parameters and `grease_quic_bit` is one of them (RFC 9287 section 3.1). From then on the
-    /// caller should choose the bit of each packet so that it can't be predicted, in the header that it passes to `send`:
+    /// Sets what the fixed bit of a packet that is sent must be. It is `Required` at first. Set it to `Greased` once this
+    /// endpoint has processed the peer's transport parameters and `grease_quic_bit` is one of them (RFC 9287 section 3.1). From
+    /// then on the caller should choose the bit of each packet unpredictably, in the header that it passes to `send`:
     /// `LongHeader::write` and `ShortHeader::write` set the bit to 1.
     ///
     /// A client that has no transport parameters of the server yet may set `Greased` only if its Initial packets have the token
@@ -166,8 +170,8 @@ impl<const W: usize> Connection<W> {
         self.failures.count()
     }
 
-    /// Returns the sender of a level, if it is there, for the number of the next packet and its length (`Sender::next_number`,
-    /// `next_number_len`).
+    /// Returns the sender of a level, or `None` if it has no keys. The sender tells the number of the next packet and its
+    /// length (`Sender::next_number`, `next_number_len`).
     pub fn sender(&self, level: Level) -> Option<&Sender>
         ensures { option_copied result ≡ (ends_of self.now level).sender }
     {
@@ -178,8 +182,8 @@ impl<const W: usize> Connection<W> {
         }
     }
 
-    /// Returns the numbers that were received at a level, for an ACK frame (`Space::ranges`). They stay when its keys are
-    /// dropped.
+    /// Returns the numbers that were received at a level, for an ACK frame (`Space::ranges`). They stay when the keys of the
+    /// level are discarded.
     pub fn space(&self, level: Level) -> &Space<W>
         ensures { result.now ≡ (ends_of self.now level).space }
     {
@@ -190,13 +194,13 @@ impl<const W: usize> Connection<W> {
         }
     }
 
-    /// Installs the keys that a level sends with. Its first packet has the number 0.
+    /// Installs the keys with which a level sends. Its first packet has the number 0.
     ///
-    /// If the sender is there already, it continues with its numbers and its limit: the 0-RTT sender of a client becomes that of
-    /// 1-RTT packets (RFC 9000 section 12.3), and the one of Initial packets gets the keys of the connection ID that a Retry
-    /// packet brings (section 17.2.5.3). Its version becomes that of the secret.
+    /// If the level already has a sender, it continues with its numbers and its limit: a client's sender of 0-RTT packets
+    /// becomes that of 1-RTT packets (RFC 9000 section 12.3), and its sender of Initial packets gets the keys of the connection
+    /// ID that a Retry packet brings (section 17.2.5.3). The sender's version becomes that of the secret.
     ///
-    /// Fails with `Discarded` if the keys of the level were dropped. The connection is then unchanged.
+    /// Fails with `Discarded` if the keys of the level were discarded. The connection is then unchanged.
     pub fn install_sender(&mut self, level: Level, secret: QuicSecret) -> Result<(), KeyError>
         ensures installs { Installs (ends_of self.old level).discarded result self.old self.new
             (with_ends self.old level (record (ends_of self.old level) {
@@ -210,11 +214,11 @@ impl<const W: usize> Connection<W> {
         }
     }
 
-    /// Installs the keys that open the packets of a level, in place of those that are there. The numbers received stay. For 1-RTT
+    /// Installs the keys that open the packets of a level, in place of those that it has. The numbers received stay. For 1-RTT
     /// packets the key after the next key update is set too, so that the peer may update once the handshake is confirmed (RFC
     /// 9001 section 6.1).
     ///
-    /// Fails with `Discarded` if the keys of the level were dropped. The connection is then unchanged.
+    /// Fails with `Discarded` if the keys of the level were discarded. The connection is then unchanged.
     pub fn install_receiver(&mut self, level: Level, secret: QuicSecret) -> Result<(), KeyError>
         ensures installs { let made = new_receiver secret.version (secret_header_key secret) (secret_key secret) (Some secret) in
             Installs (ends_of self.old level).discarded result self.old self.new
@@ -248,10 +252,10 @@ impl<const W: usize> Connection<W> {
         Ok(())
     }
 
-    /// Drops the keys of a level, for both directions (RFC 9001 sections 4.9.1 and 4.9.2). The numbers received stay.
+    /// Discards the keys of a level, for both directions (RFC 9001 sections 4.9.1 and 4.9.2). The numbers received stay.
     ///
-    /// From then on the packets of the level are ignored, and no keys can be installed for it: a secret whose sender was dropped
-    /// would begin its numbers anew. A level that had no keys takes none either.
+    /// From then on the packets of the level are ignored, and no keys can be installed for it: a secret whose sender was
+    /// discarded would begin its numbers anew. This is so even if the level never had keys.
     pub fn discard(&mut self, level: Level)
         ensures { self.new ≡ with_ends self.old level (after_discard (ends_of self.old level)) }
     {
@@ -262,9 +266,9 @@ impl<const W: usize> Connection<W> {
         }
     }
 
-    /// Drops the keys that open 0-RTT packets (RFC 9001 section 4.9.3). From then on these packets are ignored, and no keys can
-    /// be installed for them. For a server that takes no 0-RTT packets, and for a client, to which none is sent, it is the first
-    /// call.
+    /// Discards the keys that open 0-RTT packets (RFC 9001 section 4.9.3). From then on these packets are ignored, and no keys
+    /// can be installed for them. A server that accepts no 0-RTT packets calls this first of all, and so does a client, to
+    /// which nobody sends any.
     pub fn discard_zero_rtt(&mut self)
         ensures { self.new ≡ record self.old { zero_rtt = None; zero_rtt_discarded = true } }
     {
@@ -272,16 +276,16 @@ impl<const W: usize> Connection<W> {
         self.is_zero_rtt_discarded = true;
     }
 
-    /// Records that the handshake is confirmed: at a server when it is complete, at a client when HANDSHAKE_DONE arrives (RFC
-    /// 9001 section 4.1.2). It has no effect before the sender of 1-RTT packets is there.
+    /// Records that the handshake is confirmed: at a server when the handshake is complete, at a client when HANDSHAKE_DONE
+    /// arrives (RFC 9001 section 4.1.2). It has no effect before the keys that send 1-RTT packets are installed.
     pub fn confirm_handshake(&mut self)
         ensures { self.new ≡ with_sender self.old (confirmed self.old.one_rtt.sender) }
     {
         self.one_rtt.confirm_handshake();
     }
 
-    /// Drops the receiver's key of the previous phase, so that late packets of it are rejected. For the caller's timer: three
-    /// times the probe timeout after a packet of the current phase was received (RFC 9001 section 6.5).
+    /// Drops the receiver's key of the previous phase, so that late packets of that phase are rejected. The caller's timer
+    /// calls it three times the probe timeout after a packet of the current phase was received (RFC 9001 section 6.5).
     pub fn forget_previous(&mut self)
         ensures { self.new ≡ record self.old {
           one_rtt = record self.old.one_rtt { receiver = forgotten self.old.one_rtt.receiver };
@@ -292,10 +296,10 @@ impl<const W: usize> Connection<W> {
 
     /// Initiates a key update, and drops the receiver's key of the previous phase (RFC 9001 sections 6.1 and 6.5).
     ///
-    /// Fails with `HandshakeUnconfirmed` if the handshake is not confirmed or the keys of 1-RTT packets are not there in both
-    /// directions, and with `PhaseUnacknowledged` if there was an update and no packet of its phase is acknowledged yet. The
-    /// connection is then unchanged.
-    pub fn update_keys(&mut self) -> Result<(), KeyError>
+    /// Fails with `HandshakeUnconfirmed` if the handshake is not confirmed or the keys of 1-RTT packets are not installed in
+    /// both directions, and with `PhaseUnacknowledged` if there was an update and no packet of its phase is acknowledged yet.
+    /// The connection is then unchanged.
+    pub fn initiate_update(&mut self) -> Result<(), KeyError>
         ensures accepted { IsOk result ↔ IsTrue (may_update self.old.one_rtt) }
         ensures unconfirmed { IsErrOf result KeyError.HandshakeUnconfirmed
             ↔ ¬ IsTrue (is_confirmed self.old.one_rtt) }
@@ -304,7 +308,7 @@ impl<const W: usize> Connection<W> {
         ensures initiated { OnOk result (self.new ≡ record self.old { one_rtt = initiated self.old.one_rtt }) }
         ensures kept { OnErr result (self.new ≡ self.old) }
     {
-        self.one_rtt.update_keys()
+        self.one_rtt.initiate_update()
     }
 
     /// Leaves the numbers of a level below `number` unused, as `Sender::skip_to` does, so that `number` is that of its next
@@ -331,12 +335,12 @@ impl<const W: usize> Connection<W> {
         }
     }
 
-    /// Records that the peer has acknowledged the packet of a level with this number, in a packet with this Key Phase bit
-    /// (`Received::phase`), as `Sender::acknowledged_in` does.
+    /// Records that the peer has acknowledged the packet of a level with this number, as `Sender::acknowledged_in` does.
+    /// `phase` is the Key Phase bit of the packet that brought the acknowledgment (`Received::phase`).
     ///
     /// Fails with `NoKeys` if the level has no sender, with `NeverSent` if the number was not sent, and with `UpdateUnanswered`
-    /// if a packet of the current keys is acknowledged under older ones (RFC 9001 section 6.2). The connection is then unchanged;
-    /// the last two close it.
+    /// if a packet of the current keys is acknowledged under older ones (RFC 9001 section 6.2). The connection is then
+    /// unchanged, and has to be closed after the last two errors.
     pub fn acknowledged(
         &mut self,
         level: Level,
@@ -361,24 +365,24 @@ impl<const W: usize> Connection<W> {
         }
     }
 
-    /// Sends a packet of a level, as `Sender::send` does, and returns its number and whether a key update followed it. The packet
-    /// is the header, which ends with room for the number, the payload, and 16 bytes for the tag. Its fixed bit is the caller's
-    /// choice if the peer allows 0, and 1 otherwise (see `set_peer_fixed_bit`).
+    /// Sends a packet of a level, as `Sender::send` does, and returns its number and whether a key update followed it. The
+    /// packet is the header, which ends with room for the number, the payload, and 16 bytes for the tag. The caller chooses its
+    /// fixed bit if the peer allows 0, and sets it to 1 otherwise (see `set_peer_fixed_bit`).
     ///
-    /// After a 1-RTT packet, the keys are updated where they may be (see `update_keys`) once fewer than 2^16 packets are left to
-    /// the key, or fewer than half of a lower limit; and the receiver's next key is set, since the packet may bring the
-    /// acknowledgment after which the peer may update (RFC 9001 section 6.1).
+    /// After a 1-RTT packet, a key update is initiated, if `initiate_update` allows one, once the key may seal fewer than 2^16
+    /// more packets, or fewer than half of a lower limit. The receiver's next key is set as well, since the packet may bring
+    /// the acknowledgment after which the peer may update (RFC 9001 section 6.1).
     ///
-    /// Fails with `NoKeys` if the level has no sender; with `KeyUsedUp` if no packet is left to the key, or just one, which is
-    /// kept for `send_close`, and the keys may not be updated; and as `Sender::send` otherwise. The packet and the connection are
-    /// then unchanged.
+    /// Fails with `NoKeys` if the level has no sender. Fails with `KeyUsedUp` if the key may seal no more packets, or if it may
+    /// seal just one, which is kept for `send_close`, while no key update may be initiated. Otherwise it fails as
+    /// `Sender::send` does. The packet and the connection are then unchanged.
     pub fn send(
         &mut self,
         level: Level,
         packet: &mut [u8],
         number: Range<usize>,
     ) -> Result<SentPacket, SendError>
-        ensures outcome { EndOutcome (ends_of self.old level).sender (kept_at self.old level) self.old.peer_fixed_bit
+        ensures outcome { EndOutcome (ends_of self.old level).sender (kept_for_close_at self.old level) self.old.peer_fixed_bit
             number.start number.end packet.old packet.new result (updates_after level (ends_of self.old level))
             self.old self.new (λ s. with_ends self.old level (after_sending level (ends_of self.old level) s)) }
     {
@@ -391,10 +395,10 @@ impl<const W: usize> Connection<W> {
         }
     }
 
-    /// Sends the packet that closes the connection, as `send` does, but up to the limit of the key, and without a key update.
+    /// Sends the packet that closes the connection, as `send` does, but up to the limit of the key and without a key update.
     ///
-    /// Fails with `NoKeys` if the level has no sender; with `KeyUsedUp` if no packet is left to the key; and as `Sender::send`
-    /// otherwise. The packet and the connection are then unchanged.
+    /// Fails with `NoKeys` if the level has no sender, and with `KeyUsedUp` if the key may seal no more packets. Otherwise it
+    /// fails as `Sender::send` does. The packet and the connection are then unchanged.
     pub fn send_close(
         &mut self,
         level: Level,
@@ -413,21 +417,22 @@ impl<const W: usize> Connection<W> {
     }
 
     /// Receives the packet that begins at byte `at` of a datagram, with the keys of its type. The caller passes each packet of
-    /// the datagram in turn, so that keys which the payload of one gives are there for the next (RFC 9000 section 12.2). No byte
-    /// outside the packet changes.
+    /// the datagram in turn, so that keys from the payload of one packet can be installed before the next (RFC 9000 section
+    /// 12.2). No byte outside the packet changes.
     ///
-    /// `id_len` is the length of this end's own connection IDs, and `id` the destination ID of the datagram's first packet, which
-    /// the caller knows as the connection's: an own one or, at a server, the one that the client chose for its first packets.
+    /// `id_len` is the length in bytes of this endpoint's own connection IDs. `id` is the destination ID of the datagram's
+    /// first packet, by which the caller found the connection: an ID of this endpoint or, at a server, the one that the client
+    /// chose for its first packets.
     ///
     /// A packet with a long header of another version than the receiver's is dropped (`ReceiveError::OtherVersion`), and so is
-    /// each one for which `Receiver::receive` fails with an error that has no code, such as `Refused` or `Duplicate`.
+    /// each packet for which `Receiver::receive` fails with an error that has no code, such as `Refused` or `Duplicate`.
     ///
-    /// A key update of the peer is followed before the call returns, so before anything of the packet is acknowledged (RFC 9001
-    /// section 6.2), and `Incoming::Packet` has it.
+    /// The sender follows a key update of the peer before the call returns, and so before anything in the packet is
+    /// acknowledged (RFC 9001 section 6.2). `Incoming::Packet` then tells the update.
     ///
-    /// Fails with `TooManyFailures` once the limit on packets that fail authentication is reached, whatever the packet (section
-    /// 6.6); and for an authentic packet with `ReservedBits`, `KeyUpdate` and `NoFrames`, as `Receiver::receive` does. The
-    /// connection is then unchanged, and has to be closed with the error's code.
+    /// Fails with `TooManyFailures`, whatever the packet, once the limit on packets that fail authentication is reached
+    /// (section 6.6). For an authentic packet it fails with `ReservedBits`, `KeyUpdate` and `NoFrames`, as `Receiver::receive`
+    /// does. The connection is then unchanged, and has to be closed with the error's code.
     pub fn receive(
         &mut self,
         datagram: &mut [u8],
@@ -440,17 +445,18 @@ impl<const W: usize> Connection<W> {
         if self.failures.is_at_limit() {
             return Err(ReceiveError::TooManyFailures);
         }
-        match self.parts_to_open(datagram, at, id_len, id) {
+        match self.parse_or_skip(datagram, at, id_len, id) {
             Ok(parts) => {
-                let opened = self.open(datagram, &parts);
-                step_of(parts.end, parts.packet_type, opened)
+                let attempt = self.receive_parsed(datagram, &parts);
+                step_or_close(parts.end, parts.packet_type, attempt)
             }
             Err(step) => Ok(step),
         }
     }
 
-    /// The parts of the packet to open, or else the step past it.
-    fn parts_to_open(
+    /// Parses the packet that begins at byte `at`. Returns its parts if it belongs to the connection and the keys that open it
+    /// are installed, and otherwise the step past it.
+    fn parse_or_skip(
         &self,
         datagram: &[u8],
         at: usize,
@@ -462,14 +468,14 @@ impl<const W: usize> Connection<W> {
     {
         let packet = packet_at(datagram, at, id_len, self.fixed_bit);
         let Ok(parts) = packet else {
-            let next = end_of(&packet, datagram.len());
+            let next = next_packet_at(&packet, datagram.len());
             return Err(Step {
                 next,
                 incoming: Incoming::Ignored,
             });
         };
         let next = parts.end;
-        if !self.takes(datagram, &parts, id) {
+        if !self.is_own_not_discarded(datagram, &parts, id) {
             return Err(Step {
                 next,
                 incoming: Incoming::Ignored,
@@ -485,8 +491,8 @@ impl<const W: usize> Connection<W> {
         Ok(parts)
     }
 
-    /// Whether a packet is the connection's, and its keys were not dropped.
-    fn takes(&self, datagram: &[u8], parts: &Packet, id: &[u8]) -> bool
+    /// Returns whether a packet belongs to the connection, and the keys of its type are not discarded.
+    fn is_own_not_discarded(&self, datagram: &[u8], parts: &Packet, id: &[u8]) -> bool
         requires { (parts.now.destination_id.start ≤ parts.now.destination_id.end)
             × (parts.now.destination_id.end ≤ length datagram.now) }
         ensures { IsTrue result ↔ (IsOwn id.now datagram.now parts.now
@@ -495,7 +501,7 @@ impl<const W: usize> Connection<W> {
         is_own_packet(datagram, parts, id) && !self.is_discarded(parts.packet_type)
     }
 
-    /// Whether the keys of packets of a type were dropped, or are not taken.
+    /// Returns whether the keys for packets of a type were discarded, or there never will be any.
     fn is_discarded(&self, packet_type: PacketType) -> bool
         ensures { result ≡ is_discarded self.now packet_type }
     {
@@ -508,7 +514,7 @@ impl<const W: usize> Connection<W> {
         }
     }
 
-    /// Whether the receiver of packets of a type is there.
+    /// Returns whether the keys that open packets of a type are installed.
     fn has_receiver(&self, packet_type: PacketType) -> bool
         ensures { IsTrue result ↔ IsSome (receiver_of self.now packet_type) }
     {
@@ -521,8 +527,8 @@ impl<const W: usize> Connection<W> {
         }
     }
 
-    /// Opens a packet with the receiver of its type.
-    fn open(&mut self, datagram: &mut [u8], parts: &Packet) -> Opened
+    /// Receives a packet, whose parts were parsed, with the receiver of its type, and follows a key update of the peer.
+    fn receive_parsed(&mut self, datagram: &mut [u8], parts: &Packet) -> Attempt
         requires { IsSome (receiver_of self.old parts.now.packet_type) }
         ensures tried { IfSome (receiver_of self.old parts.now.packet_type) (λ r.
             IfSome (receiver_of self.new parts.now.packet_type) (λ r'. ReceiveOutcome r (space_of self.old parts.now.packet_type)
@@ -540,23 +546,23 @@ impl<const W: usize> Connection<W> {
     {
         match parts.packet_type {
             PacketType::Initial => {
-                let outcome = self.initial.open(&mut self.failures, datagram, parts);
-                Opened::without_phase(outcome)
+                let outcome = self.initial.receive(&mut self.failures, datagram, parts);
+                Attempt::without_phase(outcome)
             }
             PacketType::Handshake => {
-                let outcome = self.handshake.open(&mut self.failures, datagram, parts);
-                Opened::without_phase(outcome)
+                let outcome = self.handshake.receive(&mut self.failures, datagram, parts);
+                Attempt::without_phase(outcome)
             }
             PacketType::OneRtt => self
                 .one_rtt
-                .open_one_rtt(&mut self.failures, datagram, parts),
-            PacketType::ZeroRtt => Opened::without_phase(self.open_zero_rtt(datagram, parts)),
+                .receive_one_rtt(&mut self.failures, datagram, parts),
+            PacketType::ZeroRtt => Attempt::without_phase(self.receive_zero_rtt(datagram, parts)),
             _ => unreachable!(),
         }
     }
 
-    /// Opens a packet with the receiver of 0-RTT packets, which shares the space of 1-RTT packets.
-    fn open_zero_rtt(
+    /// Receives a 0-RTT packet. Its number is counted in the space of 1-RTT packets.
+    fn receive_zero_rtt(
         &mut self,
         datagram: &mut [u8],
         parts: &Packet,
@@ -576,13 +582,14 @@ impl<const W: usize> Connection<W> {
             unreachable!();
         };
         let failures = &mut self.failures;
-        self.one_rtt.open_with(receiver, failures, datagram, parts)
+        self.one_rtt
+            .receive_with(receiver, failures, datagram, parts)
     }
 }
 
-/// Where the packet after one that is parsed, or that isn't, begins in a datagram of this length.
-fn end_of(packet: &Result<Packet, DatagramError>, len: usize) -> usize
-    ensures { result ≡ end_of packet.now len }
+/// Returns the position after a packet, parsed or not, where the next one begins, in a datagram of this length.
+fn next_packet_at(packet: &Result<Packet, DatagramError>, len: usize) -> usize
+    ensures { result ≡ next_packet_at packet.now len }
 {
     match packet {
         Ok(parts) => parts.end,
@@ -591,19 +598,19 @@ fn end_of(packet: &Result<Packet, DatagramError>, len: usize) -> usize
     }
 }
 
-/// Whether a packet has this destination ID, and is of a type that has keys.
+/// Returns whether a packet has this destination ID, and is of a type that has keys.
 fn is_own_packet(datagram: &[u8], parts: &Packet, id: &[u8]) -> bool
     requires { (parts.now.destination_id.start ≤ parts.now.destination_id.end)
         × (parts.now.destination_id.end ≤ length datagram.now) }
     ensures { IsTrue result ↔ IsOwn id.now datagram.now parts.now }
 {
     let destination_id = &datagram[parts.destination_id.start..parts.destination_id.end];
-    destination_id == id && has_keys(parts.packet_type)
+    destination_id == id && type_has_keys(parts.packet_type)
 }
 
-/// Whether packets of a type have keys.
-fn has_keys(packet_type: PacketType) -> bool
-    ensures { result ≡ has_keys packet_type }
+/// Returns whether packets of a type are protected with keys: all but Retry, Version Negotiation and those of another version.
+fn type_has_keys(packet_type: PacketType) -> bool
+    ensures { result ≡ type_has_keys packet_type }
 {
     match packet_type {
         PacketType::Initial | PacketType::ZeroRtt | PacketType::Handshake | PacketType::OneRtt =>

@@ -1,15 +1,17 @@
-//! The packets of a datagram: the position of each part, before any protection is removed (RFC 9000 sections 12.2 and 17).
+//! The packets of a datagram: finding the position of each part of a packet, before any protection is removed (RFC 9000
+//! sections 12.2 and 17).
 
 ghost use Rattle.std.specs.Prelude.{◌≡◌, ℕ, ◌+◌, ◌-◌, ◌^◌, ◌<◌, ◌≤◌, ◌↔◌, false, if◌then◌else◌, length, slice_index, Ok, IsOk, IsErr, IfOk, IfErr, IsErrOf, IfSome, MatchOption};
 ghost use Rattle.std.specs.Int.Digits.{number_from_digits};
 ghost use Rattle.quic_packets.specs.declared.datagram.DatagramError.TheVariants.{Cut, IdTooLong};
 ghost use Rattle.quic_packets.specs.declared.datagram.PacketType.TheVariants.{Initial, OtherVersion};
-ghost use Rattle.quic_packets.specs.Datagram.{IsIn, has_long_id, id_end, initial_token, long_packet, numbered_layout, opaque_layout, packet_of, parts_of, retry_layout, short_layout, source_end, typed_layout, varint, varint_end, version_of, versioned_layout, whole, with_fixed_bit};
+ghost use Rattle.quic_packets.specs.Datagram.{IsIn, check_fixed_bit, has_long_id, id_end, initial_token, long_packet, numbered_layout, opaque_layout, packet_of, parts_of, retry_layout, short_layout, source_end, typed_layout, varint, varint_end, version_of, versioned_layout, whole};
 ghost use Rattle.quic_packets.specs.FixedBit.{lacks_fixed_bit};
 ghost use Rattle.quic_packets.specs.Versions.{bits_of, type_of};
 
 use crate::first_byte::is_long;
 use crate::fixed_bit::FixedBit;
+use crate::key::TAG_LEN;
 use crate::versions::{bits_of, type_of};
 use key_derivation::quic::Version;
 use std::ops::Range;
@@ -18,10 +20,8 @@ use thiserror::Error;
 /// The longest connection ID of versions 1 and 2, in bytes (RFC 9000 section 17.2).
 pub(crate) const MAX_ID_LEN: usize = 20;
 
-pub(crate) const TAG_LEN: usize = 16;
-
-/// The type of a packet, by the form of its header, its version and its type field, whose values each version has of its own (RFC
-/// 9000 sections 17.2 and 17.3, RFC 9369 section 3.2).
+/// The type of a packet. It follows from the form of the header, the version and the type bits, to which each version gives
+/// meanings of its own (RFC 9000 sections 17.2 and 17.3, RFC 9369 section 3.2).
 #[derive(Clone, Copy, PartialEq, Eq, Debug)]
 pub enum PacketType {
     /// An Initial packet of version 1 or 2.
@@ -47,13 +47,13 @@ pub struct Packet {
     pub start: usize,
     /// The type of the packet.
     pub packet_type: PacketType,
-    /// The version in a long header. `None` for a short header.
+    /// The version in a long header, or `None` for a short header.
     pub version: Option<u32>,
     /// The destination connection ID.
     pub destination_id: Range<usize>,
-    /// The source connection ID. Empty for a short header.
+    /// The source connection ID. It is empty for a short header.
     pub source_id: Range<usize>,
-    /// The token of an Initial or a Retry packet. Empty for other types.
+    /// The token of an Initial or a Retry packet. It is empty for other types.
     pub token: Range<usize>,
     /// The position of the packet number, or `None` for a packet without one.
     pub number_at: Option<usize>,
@@ -73,8 +73,8 @@ pub enum DatagramError {
     /// The fixed bit is 0 and must be 1 (RFC 9000 sections 17.2 and 17.3.1).
     #[error("the fixed bit of the packet is 0")]
     NoFixedBit {
-        /// The position after the packet, where the next one begins. A packet without a Length field, as one with a short header,
-        /// is the rest of the datagram.
+        /// The position after the packet, where the next one begins. A packet without a Length field, such as one with a short
+        /// header, extends to the end of the datagram.
         end: usize,
     },
 }
@@ -106,17 +106,17 @@ pub fn packet_at(
         × IsIn packet packet.token) }
 {
     let packet = parts_at(datagram, start, connection_id_len)?;
-    with_fixed_bit(datagram, packet, fixed_bit)
+    check_fixed_bit(datagram, packet, fixed_bit)
 }
 
-/// The packet, unless its fixed bit is 0 and must be 1.
-fn with_fixed_bit(
+/// Returns the packet, or fails with `NoFixedBit` if its fixed bit is 0 and must be 1.
+fn check_fixed_bit(
     datagram: &[u8],
     packet: Packet,
     fixed_bit: FixedBit,
 ) -> Result<Packet, DatagramError>
     requires { packet.start < length datagram.now }
-    ensures { result ≡ with_fixed_bit fixed_bit (slice_index datagram.now packet.start) (Ok packet) }
+    ensures { result ≡ check_fixed_bit fixed_bit (slice_index datagram.now packet.start) (Ok packet) }
 {
     if fixed_bit.is_lacking(packet.version, datagram[packet.start]) {
         return Err(DatagramError::NoFixedBit { end: packet.end });
@@ -124,7 +124,7 @@ fn with_fixed_bit(
     Ok(packet)
 }
 
-/// The parts of a packet, whatever its fixed bit.
+/// Returns the parts of the packet that begins at byte `start`, whatever its fixed bit.
 fn parts_at(
     datagram: &[u8],
     start: usize,
@@ -174,7 +174,8 @@ fn parse_long_packet(datagram: &[u8], start: usize) -> Result<Packet, DatagramEr
     parse_versioned_packet(datagram, number, opaque)
 }
 
-/// The version of a long header, and what it has in every version: the parts of a packet of another version.
+/// Returns the version of a long header, and the parts that a long header has in every version (RFC 8999), as a packet of
+/// another version.
 fn parse_invariants(datagram: &[u8], start: usize) -> Result<(u32, Packet), DatagramError>
     requires { start < length datagram.now }
     ensures version { IfOk result (λ read. read.0 ≡ version_of datagram.now start) }
@@ -188,7 +189,7 @@ fn parse_invariants(datagram: &[u8], start: usize) -> Result<(u32, Packet), Data
     if datagram.len() - start < 6 {
         return Err(DatagramError::Cut);
     }
-    let number = version(datagram, start);
+    let number = version_at(datagram, start);
     let longest = if Version::from_number(number).is_some() {
         MAX_ID_LEN
     } else {
@@ -209,7 +210,7 @@ fn parse_invariants(datagram: &[u8], start: usize) -> Result<(u32, Packet), Data
     Ok((number, packet))
 }
 
-/// The end of the connection ID whose length is the byte `at`.
+/// Returns the end of the connection ID whose length is the byte at `at`. The ID has at most `longest` bytes.
 fn id_end(datagram: &[u8], at: usize, longest: usize) -> Result<usize, DatagramError>
     ensures too_long { IsErrOf result DatagramError.IdTooLong ↔ (longest < slice_index datagram.now at) }
     ensures cut { IsErrOf result DatagramError.Cut
@@ -231,7 +232,7 @@ fn id_end(datagram: &[u8], at: usize, longest: usize) -> Result<usize, DatagramE
     Ok(at + 1 + len)
 }
 
-/// Parses what a packet has in its version.
+/// Parses the parts of a long header that depend on its version.
 fn parse_versioned_packet(
     datagram: &[u8],
     number: u32,
@@ -288,7 +289,7 @@ fn parse_initial_packet(datagram: &[u8], opaque: Packet) -> Result<Packet, Datag
     parse_numbered_packet(datagram, PacketType::Initial, at..at + len, opaque)
 }
 
-/// Parses a packet with a packet number. The Length field follows the token.
+/// Parses a packet with a packet number, where the Length field follows the token.
 fn parse_numbered_packet(
     datagram: &[u8],
     packet_type: PacketType,
@@ -329,15 +330,16 @@ fn parse_retry_packet(datagram: &[u8], opaque: Packet) -> Result<Packet, Datagra
     })
 }
 
-/// The version in a long header.
-pub(crate) fn version(datagram: &[u8], start: usize) -> u32
+/// Returns the version in the long header that begins at byte `start`.
+pub(crate) fn version_at(datagram: &[u8], start: usize) -> u32
     requires { start + 5 ≤ length datagram.now }
     ensures { result ≡ version_of datagram.now start }
 {
     network_number(&datagram[start + 1..start + 5]) as u32
 }
 
-/// The variable-length integer at a byte, and its end. `None` if the datagram ends before it does.
+/// Returns the variable-length integer that begins at byte `at`, and its end, or `None` if the datagram ends before the integer
+/// does.
 fn varint_at(datagram: &[u8], at: usize) -> Option<(usize, usize)>
     ensures { MatchOption result (length datagram.now < varint_end datagram.now at)
         (λ read. (read.0 ≡ varint datagram.now at) × (read.1 ≡ varint_end datagram.now at)
@@ -355,7 +357,7 @@ fn varint_at(datagram: &[u8], at: usize) -> Option<(usize, usize)>
     Some((value as usize, at + len))
 }
 
-/// The number that bytes hold in network byte order.
+/// Returns the number that these bytes hold in network byte order.
 fn network_number(bytes: &[u8]) -> u64
     requires { length bytes.now ≤ 8 }
     ensures is { result ≡ number_from_digits 256 bytes.now }

@@ -5,10 +5,11 @@ ghost use Rattle.std.specs.Prelude.{◌≡◌, ◌≢◌, ◌+◌, ◌^◌, ◌<
 use crate::receive_error::ReceiveError;
 use std::marker::Model;
 
-/// The integrity limit of AES-GCM: the packets that may fail authentication, over all keys of a connection (RFC 9001 section 6.6).
+/// The integrity limit of AES-GCM: the packets that may fail authentication, over all keys of a connection (RFC 9001 section
+/// 6.6).
 pub const INTEGRITY_LIMIT: u64 = 1 << 52;
 
-/// The number of packets that have failed authentication, over all keys of a connection, and its limit.
+/// The number of packets that have failed authentication, over all keys of a connection, and the limit of that number.
 ///
 /// Once the limit is reached, every packet is rejected and the connection must be closed (RFC 9001 section 6.6).
 #[derive(Drop)]
@@ -61,7 +62,7 @@ impl Failures {
         self.count >= self.limit
     }
 
-    /// Counts one more failure if the error is `Refused`.
+    /// Counts one more failure if the error is `Refused`, that of a packet that isn't authentic.
     pub(crate) fn count_if_refused(&mut self, error: ReceiveError)
         requires { self.old.count < self.old.limit }
         ensures failed { error ≡ ReceiveError.Refused → self.new ≡ record self.old { count = self.old.count + 1 } }

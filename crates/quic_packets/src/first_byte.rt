@@ -1,4 +1,4 @@
-//! The bits of a header's first byte (RFC 9000 sections 17.2 and 17.3.1).
+//! The bits of a header's first byte, by name (RFC 9000 sections 17.2 and 17.3.1).
 
 ghost use Rattle.std.specs.Prelude.{◌≡◌};
 ghost use Rattle.quic_packets.specs.Sending.{is_long};
@@ -9,10 +9,10 @@ pub(crate) const LONG_HEADER_FORM: u8 = 0x80;
 /// The fixed bit (RFC 9000 sections 17.2 and 17.3.1).
 pub(crate) const FIXED_BIT: u8 = 0x40;
 
-/// The type of a long header (RFC 9000 section 17.2).
+/// The bits that hold the packet type of a long header (RFC 9000 section 17.2).
 pub(crate) const LONG_TYPE_BITS: u8 = 0x30;
 
-/// The number of bits below the type.
+/// The number of bits below the type bits.
 pub(crate) const LONG_TYPE_SHIFT: u32 = 4;
 
 /// The reserved bits of a long header (RFC 9000 section 17.2).
@@ -24,16 +24,16 @@ pub(crate) const SHORT_RESERVED_BITS: u8 = 0x18;
 /// The Key Phase bit of a short header (RFC 9000 section 17.3.1).
 pub(crate) const KEY_PHASE_BIT: u8 = 0x04;
 
-/// The length of the packet number, less one (RFC 9000 sections 17.2 and 17.3.1).
+/// The bits that hold the length of the packet number, less one (RFC 9000 sections 17.2 and 17.3.1).
 pub(crate) const NUMBER_LEN_BITS: u8 = 0x03;
 
 /// The bits that header protection masks in a long header (RFC 9001 section 5.4.1).
 pub(crate) const LONG_MASKED_BITS: u8 = LONG_RESERVED_BITS | NUMBER_LEN_BITS;
 
-/// The bits that it masks in a short header (RFC 9001 section 5.4.1).
+/// The bits that header protection masks in a short header (RFC 9001 section 5.4.1).
 pub(crate) const SHORT_MASKED_BITS: u8 = SHORT_RESERVED_BITS | KEY_PHASE_BIT | NUMBER_LEN_BITS;
 
-/// Whether the first byte is that of a long header.
+/// Returns whether this is the first byte of a long header.
 pub(crate) fn is_long(first: u8) -> bool
     ensures { result ≡ is_long first }
 {

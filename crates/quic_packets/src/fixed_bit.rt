@@ -1,4 +1,4 @@
-//! The fixed bit of a header (RFC 9000 sections 17.2 and 17.3.1).
+//! The fixed bit of a header, and whether it must be 1 (RFC 9000 sections 17.2 and 17.3.1, RFC 9287).
 
 ghost use Rattle.std.specs.Prelude.{◌≡◌};
 ghost use Rattle.quic_packets.specs.FixedBit.{has_fixed_bit, lacks_fixed_bit};
@@ -18,8 +18,8 @@ pub enum FixedBit {
 }
 
 impl FixedBit {
-    /// Whether the bit must be 1 and is 0 in the first byte of a long header of this version, or of a short header, which has
-    /// none.
+    /// Returns whether the fixed bit must be 1 and is 0 in this first byte. `version` is that of a long header, and `None` for
+    /// a short one. A long header of an unknown version has no fixed bit.
     pub(crate) fn is_lacking(self, version: Option<u32>, first: u8) -> bool
         ensures { result ≡ lacks_fixed_bit self version first }
     {
@@ -30,7 +30,8 @@ impl FixedBit {
     }
 }
 
-/// Whether a long header of this version, or a short one, has the bit.
+/// Returns whether a long header of this version has a fixed bit. A short header, for which `version` is `None`, always has
+/// one.
 fn has_fixed_bit(version: Option<u32>) -> bool
     ensures { result ≡ has_fixed_bit version }
 {

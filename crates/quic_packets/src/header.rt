@@ -1,9 +1,9 @@
-//! Header protection (RFC 9001 section 5.4).
+//! Header protection: masking and unmasking the first byte and the packet number of a header (RFC 9001 section 5.4).
 
 ghost use Rattle.std.specs.Prelude.{◌≡◌, ◌≢◌, ℕ, ◌+◌, ◌<◌, ◌≤◌, ◌↔◌, ◌⊎◌, length, IsOk, IfOk, OnOk, OnErr, IsErrOf, IsOkUnless, bit_xor, slice_index, slice_range};
 ghost use Rattle.aead_ciphers.specs.HeaderProtection.{header_protection, key_len};
 ghost use Rattle.quic_packets.specs.Keys.{secret_header_key};
-ghost use Rattle.quic_packets.specs.Header.{HasMaskedBytes, HasSample, MaskedParts, Protected, Unprotected, first_mask, number_len};
+ghost use Rattle.quic_packets.specs.Header.{HasMaskedBytes, HasSample, MaskOutcome, Protected, Unprotected, first_mask, number_len};
 
 use crate::first_byte::{LONG_MASKED_BITS, NUMBER_LEN_BITS, SHORT_MASKED_BITS, is_long};
 use crate::key_error::KeyError;
@@ -14,13 +14,14 @@ use aead_ciphers_wide::aead::quic::HeaderProtectionKey;
 use key_derivation::quic::QuicSecret;
 use std::marker::Model;
 
-/// The sample begins this many bytes after the start of the packet number, as if the number had four bytes.
+/// The longest packet number in bytes. The sample begins this many bytes after the start of the packet number, however long
+/// that is.
 pub(crate) const MAX_NUMBER_LEN: usize = 4;
 
 /// The length of a sample in bytes (RFC 9001 section 5.4.2).
 pub const SAMPLE_LEN: usize = 16;
 
-/// The sample ends this many bytes after the start of the packet number.
+/// The end of the sample, in bytes after the start of the packet number.
 pub(crate) const SAMPLE_END: usize = MAX_NUMBER_LEN + SAMPLE_LEN;
 
 /// A header protection key (RFC 9001 section 5.4). It masks and unmasks headers, and does not depend on the packet number.
@@ -72,14 +73,8 @@ impl HeaderKey {
         first: &mut u8,
         number: &mut [u8],
     ) -> Result<(), MaskError>
-        ensures accepted { IsOk result ↔ ((length sample.now ≡ 16) × (length number.old ≤ 4)) }
-        ensures no_sample { IsErrOf result MaskError.NoSample ↔ (length sample.now ≢ 16) }
-        ensures number_len { IsErrOf result MaskError.NumberLength
-            ↔ ((length sample.now ≡ 16) × (4 < length number.old)) }
-        ensures masked { OnOk result (MaskedParts (header_protection self.now.algorithm self.now.bytes sample.now)
-            (number_len first.old) first.old number.old first.new number.new) }
-        ensures first_kept { OnErr result (first.new ≡ first.old) }
-        ensures number_kept { OnErr result (number.new ≡ number.old) }
+        ensures outcome { MaskOutcome self.now sample.now (number_len first.old) first.old number.old result
+            first.new number.new }
     {
         let mask = self.mask_of_sample(sample, number)?;
         let number_len = number_len_in(*first);
@@ -100,14 +95,8 @@ impl HeaderKey {
         first: &mut u8,
         number: &mut [u8],
     ) -> Result<(), MaskError>
-        ensures accepted { IsOk result ↔ ((length sample.now ≡ 16) × (length number.old ≤ 4)) }
-        ensures no_sample { IsErrOf result MaskError.NoSample ↔ (length sample.now ≢ 16) }
-        ensures number_len { IsErrOf result MaskError.NumberLength
-            ↔ ((length sample.now ≡ 16) × (4 < length number.old)) }
-        ensures masked { OnOk result (MaskedParts (header_protection self.now.algorithm self.now.bytes sample.now)
-            (number_len first.new) first.old number.old first.new number.new) }
-        ensures first_kept { OnErr result (first.new ≡ first.old) }
-        ensures number_kept { OnErr result (number.new ≡ number.old) }
+        ensures outcome { MaskOutcome self.now sample.now (number_len first.new) first.old number.old result
+            first.new number.new }
     {
         let mask = self.mask_of_sample(sample, number)?;
         *first ^= first_mask(*first, mask[0]);
@@ -134,7 +123,7 @@ impl HeaderKey {
         Ok(())
     }
 
-    /// Does what `protect` does to a packet that is long enough for a sample.
+    /// Masks a header as `protect` does, where the packet is long enough for a sample.
     pub(crate) fn protect_sampled(&self, packet: &mut [u8], number_at: usize)
         requires { HasSample number_at (length packet.old) }
         ensures { Protected self.now number_at packet.old packet.new }
@@ -169,7 +158,7 @@ impl HeaderKey {
         Ok(self.unprotect_sampled(packet, number_at))
     }
 
-    /// Does what `unprotect` does to a packet that is long enough for a sample.
+    /// Unmasks a header as `unprotect` does, where the packet is long enough for a sample.
     pub(crate) fn unprotect_sampled(&self, packet: &mut [u8], number_at: usize) -> usize
         requires { HasSample number_at (length packet.old) }
         ensures unprotected { Unprotected self.now number_at packet.old packet.new }
@@ -186,7 +175,8 @@ impl HeaderKey {
         number_len_in(first)
     }
 
-    /// The mask for a sample, with a packet number that is not too long.
+    /// Returns the mask for a sample. Fails with `NoSample` if the sample doesn't have 16 bytes, and with `NumberLength` if the
+    /// packet number has more than 4.
     fn mask_of_sample(&self, sample: &[u8], number: &[u8]) -> Result<[u8; 5], MaskError>
         ensures accepted { IsOk result ↔ ((length sample.now ≡ 16) × (length number.now ≤ 4)) }
         ensures no_sample { IsErrOf result MaskError.NoSample ↔ (length sample.now ≢ 16) }
@@ -205,7 +195,7 @@ impl HeaderKey {
     }
 }
 
-/// The sample of a packet that is long enough for one.
+/// Returns the sample of a packet that is long enough for one (RFC 9001 section 5.4.2).
 fn sample_of(packet: &[u8], number_at: usize) -> [u8; SAMPLE_LEN]
     requires { HasSample number_at (length packet.now) }
     ensures { result ≡ slice_range packet.now (number_at + 4) (number_at + 20) }
@@ -231,7 +221,7 @@ fn check_sample(packet: &[u8], number_at: usize) -> Result<(), MaskError>
     Ok(())
 }
 
-/// The bytes of a header that `unprotect` may change: the first byte, and four from the packet number on.
+/// Returns the bytes of a header that `unprotect` may change: the first byte, and four from the packet number on.
 pub(crate) fn masked_bytes(packet: &[u8], number_at: usize) -> [u8; 5]
     requires { HasSample number_at (length packet.now) }
     ensures { HasMaskedBytes result number_at packet.now }
@@ -245,7 +235,7 @@ pub(crate) fn masked_bytes(packet: &[u8], number_at: usize) -> [u8; 5]
     ]
 }
 
-/// Writes back what `masked_bytes` returned.
+/// Writes the bytes that `masked_bytes` returned back to the header.
 pub(crate) fn restore_masked_bytes(packet: &mut [u8], number_at: usize, bytes: &[u8; 5])
     requires first_byte { 0 < number_at }
     requires within { number_at + 4 ≤ length packet.old }
@@ -259,7 +249,7 @@ pub(crate) fn restore_masked_bytes(packet: &mut [u8], number_at: usize, bytes: &
     }
 }
 
-/// The packet number's length in bytes, by the lowest bits of the unmasked first byte.
+/// Returns the length of the packet number in bytes, from the lowest bits of the unmasked first byte.
 fn number_len_in(first: u8) -> usize
     ensures is { result ≡ number_len first }
     ensures few { (0 < result) × (result ≤ 4) }
@@ -267,7 +257,8 @@ fn number_len_in(first: u8) -> usize
     (first & NUMBER_LEN_BITS) as usize + 1
 }
 
-/// What the first byte is XORed with, given its highest bit and the mask's first byte.
+/// Returns what the first byte of a header is XORed with: the bits of the mask's first byte that its form allows. `first` may
+/// be masked or unmasked.
 fn first_mask(first: u8, mask: u8) -> u8
     ensures { result ≡ first_mask first mask }
 {
@@ -291,12 +282,12 @@ fn mask_number(number: &mut [u8], number_len: usize, mask: &[u8; 5])
     ensures len { length number.new ≡ length number.old }
 {
     for i in 0..number.len() {
-        number[i] ^= kept_below(mask[i + 1], i, number_len);
+        number[i] ^= byte_if_below(mask[i + 1], i, number_len);
     }
 }
 
-/// The byte if `i < number_len`, and zero otherwise, without a branch.
-fn kept_below(byte: u8, i: usize, number_len: usize) -> u8
+/// Returns the byte if `i < number_len`, and zero otherwise, without a branch.
+fn byte_if_below(byte: u8, i: usize, number_len: usize) -> u8
     requires index { i < 4 }
     requires few { number_len ≤ 4 }
     ensures below { i < number_len → result ≡ byte }

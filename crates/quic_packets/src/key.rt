@@ -1,4 +1,4 @@
-//! A key that seals and opens packets by their numbers (RFC 9001 section 5.3).
+//! A packet protection key, which seals and opens packets by their packet numbers (RFC 9001 section 5.3).
 
 ghost use Rattle.std.specs.Prelude.{◌≡◌, ◌≢◌, ◌+◌, ◌-◌, ◌^◌, ◌<◌, ◌≤◌, ◌↔◌, true, length, take, IsOk, IfOk, IsSome, IfSome, IsOkUnless, IsErrOf, OnOk, OnErr};
 ghost use Rattle.aead_ciphers_base.specs.Aes.{aes};
@@ -27,9 +27,9 @@ pub const TAG_LEN: usize = MAX_TAG_LEN;
 
 /// A key and IV of one direction, which seals and opens packets by their numbers, in any order and without allocating.
 ///
-/// It keeps no count: not using a number twice for sealing is the caller's responsibility, and so is the limit of packets (RFC
-/// 9001 section 6.6). A `Sender` and a `Receiver` count. Each call has a variant for packets in one slice, for header and payload
-/// apart, and from one buffer to another.
+/// It keeps no count: the caller must not use a number twice for sealing, and must keep the limit on packets (RFC 9001 section
+/// 6.6). `Sender` and `Receiver` do both. Sealing and opening each have calls for a packet in one slice, for a payload apart
+/// from its header, and from one buffer to another.
 #[derive(Drop)]
 pub struct PacketKey {
     key: LessSafeKey,
@@ -112,7 +112,7 @@ impl PacketKey {
         Ok(())
     }
 
-    /// Does what `seal` does to a packet that AES-GCM allows, with a number that is left.
+    /// Seals a packet as `seal` does, where AES-GCM allows the lengths and the number is below 2^62.
     pub(crate) fn seal_fitting(&self, number: u64, packet: &mut [u8], header_len: usize)
         requires fits { PacketFits header_len (length packet.old) }
         requires number { IsNumber number }
@@ -125,7 +125,7 @@ impl PacketKey {
         };
     }
 
-    /// Like `seal` for a payload apart from its header, and returns the tag.
+    /// Seals a payload that is apart from its header, as `seal` does, and returns the tag.
     ///
     /// Fails with `TooLong` and `NumbersEnded` as `seal` does. The payload is then unchanged.
     pub fn seal_separate_tag(
@@ -157,8 +157,8 @@ impl PacketKey {
         Ok(tag)
     }
 
-    /// Like `seal` from one buffer to another: writes the ciphertext and its tag to `out`, which has 16 bytes more than the
-    /// payload.
+    /// Seals a payload from one buffer to another, as `seal` does: writes the ciphertext and its tag to `out`, which has 16
+    /// bytes more than the payload.
     ///
     /// Fails with `OutputLength` if `out` does not have that length, and with `TooLong` and `NumbersEnded` as `seal` does. `out`
     /// is then unchanged.
@@ -243,7 +243,11 @@ impl PacketKey {
         }
     }
 
-    /// Like `open` for a payload apart from its header, with the tag in its last 16 bytes.
+    /// Opens a payload that is apart from its header and ends with its 16-byte tag, as `open` does, and returns the length of
+    /// the plaintext in bytes. The plaintext begins where the ciphertext did, and the tag is left after it.
+    ///
+    /// Fails with `TooShort` if `payload` has fewer than 16 bytes, and with `TooLong`, `NumbersEnded` and `Refused` as `open`
+    /// does. The payload is then unchanged.
     pub fn open_payload(
         &self,
         number: u64,
@@ -283,7 +287,7 @@ impl PacketKey {
         }
     }
 
-    /// Like `open` for a payload apart from its header and its tag.
+    /// Opens a payload that is apart from its header and its tag, as `open` does.
     ///
     /// Fails with `TooLong`, `NumbersEnded` and `Refused` as `open` does. The payload is then unchanged.
     pub fn open_separate_tag(
@@ -318,8 +322,8 @@ impl PacketKey {
         }
     }
 
-    /// Like `open` from one buffer to another: `sealed` is the ciphertext and its tag, and the payload is written to `out`, which
-    /// has 16 bytes fewer.
+    /// Opens a payload from one buffer to another, as `open` does: `sealed` is the ciphertext and its tag, and the plaintext is
+    /// written to `out`, which has 16 bytes fewer.
     ///
     /// Fails with `OutputLength` if `out` does not have that length, and with `TooLong`, `NumbersEnded` and `Refused` as `open`
     /// does. `out` is then unchanged.
@@ -361,7 +365,7 @@ impl PacketKey {
             .map_err(|_| ReceiveError::Refused)
     }
 
-    /// The nonce of a packet (RFC 9001 section 5.3), or `None` if its number is 2^62 or more.
+    /// Returns the nonce of the packet with this number (RFC 9001 section 5.3), or `None` if the number is 2^62 or more.
     fn nonce(&self, number: u64) -> Option<Nonce>
         ensures some { IsSome result ↔ IsNumber number }
         ensures nonce { IfSome result (λ nonce. nonce ≡ xored_nonce self.now.iv number) }

@@ -1,4 +1,4 @@
-//! The keys of one direction: those that the caller derives, and those of a secret.
+//! The keys of one direction, which derive from a secret or come from the caller (RFC 9001 section 5.1).
 
 ghost use Rattle.std.specs.Prelude.{◌≡◌, length};
 ghost use Rattle.key_derivation.specs.Secret.{suite_key_len};
@@ -11,7 +11,8 @@ use aead_ciphers::aead::NONCE_LEN;
 use key_derivation::Suite;
 use key_derivation::quic::{QuicSecret, Version};
 
-/// The keys of one direction that the caller derives, by their names (RFC 9001 section 5.1, RFC 9369 section 3.3.2).
+/// The keys of one direction that the caller has derived. The names are those of RFC 9001 section 5.1 and RFC 9369 section
+/// 3.3.2.
 #[derive(Clone, Copy)]
 pub struct Keys<'a> {
     /// The version of the packets.
@@ -24,7 +25,7 @@ pub struct Keys<'a> {
     pub header_key: &'a [u8],
 }
 
-/// The packet key and the header key of a secret, by one key of HMAC.
+/// Returns the packet key and the header key of a secret, both derived with one HMAC key.
 #[tactic(auto, unfolding(crate::specs::Keys::secret_key, crate::specs::Keys::secret_header_key))]
 pub(crate) fn keys_of(secret: &QuicSecret) -> (PacketKey, HeaderKey)
     ensures packet { result.0 ≡ secret_key secret.now }
@@ -38,7 +39,7 @@ pub(crate) fn keys_of(secret: &QuicSecret) -> (PacketKey, HeaderKey)
     )
 }
 
-/// The packet key of a suite with these bytes.
+/// Returns the packet key of a suite with these bytes.
 pub(crate) fn packet_key(suite: Suite, key: &[u8], iv: [u8; NONCE_LEN]) -> PacketKey
     requires { length key.now ≡ suite_key_len suite }
     ensures { result ≡ packet_key suite key.now iv }
@@ -49,7 +50,7 @@ pub(crate) fn packet_key(suite: Suite, key: &[u8], iv: [u8; NONCE_LEN]) -> Packe
     key
 }
 
-/// The header key of a suite with these bytes.
+/// Returns the header key of a suite with these bytes.
 pub(crate) fn header_key(suite: Suite, key: &[u8]) -> HeaderKey
     requires { length key.now ≡ suite_key_len suite }
     ensures { result ≡ header_key suite key.now }

@@ -1,4 +1,5 @@
-//! Laws of the definitions: functions without a body, each of whose contracts states a law for its arguments.
+//! Laws: functions with an empty body, whose contracts are theorems about the other contracts of this crate. Nobody needs to
+//! call them.
 
 ghost use Rattle.std.specs.Prelude.{◌≡◌, ◌≢◌, ℕ, ◌+◌, ◌*◌, ◌%◌, ◌^◌, ◌<◌, ◌≤◌, List, ◌++◌, length, slice_index, flat_map, All, AllPairs, Contains, IsFalse, IsTrue, Result, Some, ◌↔◌};
 ghost use Rattle.std.specs.Int.Digits.{number_from_digits};
@@ -16,7 +17,7 @@ ghost use Rattle.quic_packets.specs.Sending.{IsInTurn, IsSealable, Runs, SenderR
 ghost use Rattle.quic_packets.specs.Space.{Space as SpaceState};
 ghost use Rattle.quic_packets.specs.Versions.{is_other_version};
 ghost use Rattle.quic_packets.specs.Packet.{HasNumber, IsNumber, low_bytes};
-ghost use Rattle.quic_packets.specs.Receiving.{Outcome, Reads, Receiver as ReceiverState, EarlyRefuses, IsAdmitted, IsAuthentic, IsReadable, ReadRefuses, of_packet};
+ghost use Rattle.quic_packets.specs.Receiving.{EarlyRefuses, IsAcceptable, IsAuthentic, IsReadable, Outcome, ReadRefuses, Reads, Receiver as ReceiverState, of_packet};
 ghost use Rattle.quic_packets.specs.Secrets.{ReceiverOf, SenderOf, secret_after};
 ghost use Rattle.quic_packets.specs.declared.datagram.Packet.{Packet};
 ghost use Rattle.quic_packets.specs.declared.receive_error.ReceiveError.{ReceiveError};
@@ -117,8 +118,8 @@ pub fn low_bytes_are_low_bits(number: u64, len: usize)
     ensures { number_from_digits 256 (low_bytes len number) ≡ number % 2 ^ (8 * len) }
 {}
 
-/// A sender has one reason to refuse a packet, and none if it sends it: whichever error `Sender::send` returns, the reasons of the
-/// others don't hold.
+/// A sender has one reason to refuse a packet, and none if it sends it: whichever error `Sender::send` returns, the reasons of
+/// the others don't hold.
 #[tactic(auto, using(crate::proofs::RefusalLemmas::one, crate::proofs::RefusalLemmas::none))]
 pub fn one_reason_to_refuse(
     sender: &Sender,
@@ -133,8 +134,8 @@ pub fn one_reason_to_refuse(
         × IsInTurn sender.now number.start number.end) }
 {}
 
-/// A receiver has one reason to reject a packet, and none if it receives it: whichever error `Receiver::receive` returns, the reasons
-/// of the others don't hold.
+/// A receiver has one reason to reject a packet, and none if it receives it: whichever error `Receiver::receive` returns, the
+/// reasons of the others don't hold.
 #[tactic(auto, using(crate::proofs::RefusalLemmas::one_early, crate::proofs::RefusalLemmas::not_readable, crate::proofs::RefusalLemmas::one_late, crate::proofs::RefusalLemmas::not_received))]
 pub fn one_reason_to_reject(receiver: &Receiver, failures: &Failures, parts: &Packet, len: usize)
     ensures early { (e f : ReceiveError) → EarlyRefuses receiver.now failures.now parts.now len e
@@ -147,7 +148,7 @@ pub fn one_reason_to_reject(receiver: &Receiver, failures: &Failures, parts: &Pa
     ensures received { (s : SpaceState) → (start number_at : ℕ) → (plain : List ℕ) → (number : ℕ) → (e : ReceiveError)
         → ReadRefuses receiver.now s start number_at plain number e
         → ¬ (IsAuthentic receiver.now number_at plain number
-        × IsAdmitted receiver.now s (slice_index plain 0) (of_packet start number_at plain number)) }
+        × IsAcceptable receiver.now s (slice_index plain 0) (of_packet start number_at plain number)) }
 {}
 
 /// Over every run of calls of one sender, the packet numbers that it seals under increase over all of its keys together, so no
@@ -219,8 +220,8 @@ pub fn long_header_is_parsed(header: &LongHeader<'_>, connection_id_len: usize, 
         × HasLongParts header.now (long_header header.now ++ rest) packet }
 {}
 
-/// A short header that is written is parsed as it was given, with what follows it. The packet is the rest of the datagram (RFC 9000
-/// section 17.3.1).
+/// A short header that is written is parsed as it was given, with what follows it. The packet is the rest of the datagram (RFC
+/// 9000 section 17.3.1).
 pub fn short_header_is_parsed(header: &ShortHeader<'_>, fixed_bit: FixedBit)
     requires { IsShortHeader header.now }
     ensures { (rest : List ℕ) → (packet : Packet)

@@ -1,10 +1,11 @@
 //! Packet protection of QUIC versions 1 and 2 (RFC 9000 section 17, RFC 9001 sections 5 and 6, RFC 9369), under the keys of a
 //! secret or keys that the caller derives.
 //!
-//! A packet is one slice: the header, which ends with the packet number, the payload, and 16 bytes for the tag. `Sender` sends
-//! a packet in one call, whose header `LongHeader` or `ShortHeader` writes. `Receiver` receives one, and `packet_at` finds the
-//! parts of a packet in its datagram. `connection` has both for each level of a connection. `PacketKey`, `HeaderKey` and `numbers`
-//! are the parts of both. `laws` states what holds over runs of calls.
+//! A packet is one slice: the header, which ends with the packet number, the payload, and 16 bytes for the tag. `LongHeader`
+//! and `ShortHeader` write a header, and `Sender` sends a packet in one call. `packet_at` finds the parts of a packet in its
+//! datagram, and `Receiver` receives the packet. `connection` has a sender and a receiver for each encryption level of a
+//! connection. `PacketKey`, `HeaderKey` and `numbers` are the steps of which sending and receiving consist. `laws` states what
+//! follows from the contracts over runs of calls.
 #![tactic(auto)]
 
 mod codes;

@@ -15,8 +15,8 @@ pub enum NumberError {
     /// The packet number is above 2^62, where packet numbers end (RFC 9000 section 12.3).
     #[error("the packet number is above 2^62")]
     NumbersEnded,
-    /// The peer has acknowledged a packet number that was not sent (RFC 9000 section 13.1): one that is not below the next number,
-    /// or that was skipped and is in a range that is kept (see `Sender::skip_to`).
+    /// The peer has acknowledged a packet number that was not sent (RFC 9000 section 13.1): one that is not below the next
+    /// number, or that was skipped and is in a range that is kept (see `Sender::skip_to`).
     #[error("a packet that was not sent was acknowledged")]
     NeverSent,
     /// The peer has acknowledged a packet of the current keys in a packet of older keys (RFC 9001 section 6.2).

@@ -81,7 +81,8 @@ pub fn truncated(packet: &[u8], number_at: usize, len: usize) -> u64
     u64::from(four >> (32 - 8 * len))
 }
 
-/// The number with these low bits that is nearest to the expected one.
+/// Returns the packet number with these low bits that is nearest to the expected one, and the greater of two that are equally
+/// near.
 ///
 /// It does not branch, because the bits and their length are not authenticated yet (RFC 9001 section 9.5).
 fn nearest(expected: u64, truncated: u64, len: usize) -> u64

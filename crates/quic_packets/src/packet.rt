@@ -1,13 +1,14 @@
-//! What sealing and opening share.
+//! The length of a packet's payload, and the end of the packet numbers, which sealing and opening both check.
 
 ghost use Rattle.std.specs.Prelude.{◌≡◌, ◌+◌, ◌-◌, ◌≤◌, ◌↔◌, length, IsSome, IfSome};
 
 use aead_ciphers::aead::MAX_TAG_LEN;
 
-/// The end of the packet numbers (RFC 9000 section 12.3).
+/// The end of the packet numbers: each is below 2^62 (RFC 9000 section 12.3).
 pub(crate) const NUMBERS_END: u64 = 1 << 62;
 
-/// The number of bytes between the header and the tag, or `None` if the packet has fewer than both.
+/// Returns the length of the payload in bytes, which lies between the header and the tag, or `None` if the packet is shorter
+/// than its header and a tag.
 pub(crate) fn payload_len(packet: &[u8], header_len: usize) -> Option<usize>
     ensures some { IsSome result ↔ (header_len + 16 ≤ length packet.now) }
     ensures len { IfSome result (λ n. n ≡ length packet.now - 16 - header_len) }

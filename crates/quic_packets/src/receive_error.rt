@@ -12,10 +12,10 @@ use thiserror::Error;
 /// `NoFrames`: these come after the packet was opened.
 #[derive(Clone, Copy, PartialEq, Eq, Debug, Drop, Error)]
 pub enum ReceiveError {
-    /// The packet ends after the datagram.
+    /// The packet ends past the end of the datagram.
     #[error("the datagram ends before the packet")]
     PastEnd,
-    /// The packet has no packet number, as its type or its version says.
+    /// The packet has no packet number, because of its type or its version.
     #[error("the packet has no packet number")]
     NoNumber,
     /// The packet number is said to begin at byte 0, which is the first byte of every header.

@@ -1,4 +1,5 @@
-//! Receiving packets, over key updates (RFC 9001 sections 5.3, 5.4, 6.2 to 6.6 and 9.5).
+//! Receiving the packets of one encryption level, over key updates: unmasking the header, decoding the number, opening, and
+//! checking for duplicates (RFC 9001 sections 5.3, 5.4, 6.2 to 6.6 and 9.5).
 
 ghost use Rattle.std.specs.Prelude.{◌≡◌, ◌≢◌, ℕ, ◌+◌, ◌-◌, ◌<◌, ◌≤◌, ◌↔◌, false, length, List, ◌^◌, IsTrue, IsOk, IfOk, IfErr, IsErrOf, IsOkUnless, Some, None, IsSome, IfSome, OnOk, OnErr};
 ghost use Rattle.std.specs.Option.{option_copied};
@@ -8,7 +9,7 @@ ghost use Rattle.quic_packets.specs.Header.{HasSample};
 ghost use Rattle.quic_packets.specs.Keys.{header_key, packet_key, secret_header_key, secret_key};
 ghost use Rattle.quic_packets.specs.Numbers.{expected};
 ghost use Rattle.quic_packets.specs.Packet.{IsNumber};
-ghost use Rattle.quic_packets.specs.Receiving.{AdmitRefuses, EarlyRefuses, IsAdmitted, IsInTurn, IsReadable, Opening, Reads, ReceiveOutcome, highest_before, is_other_phase, key_of, new_receiver, opening_key, received, updated, with_next};
+ghost use Rattle.quic_packets.specs.Receiving.{AcceptRefuses, EarlyRefuses, IsAcceptable, IsInTurn, IsReadable, Opening, Reads, ReceiveOutcome, highest_before, is_other_phase, key_of, new_receiver, opening_key, received, updated, with_next};
 ghost use Rattle.quic_packets.specs.Sending.{HasKeyLengths};
 ghost use Rattle.quic_packets.specs.Space.{Marks};
 ghost use Rattle.quic_packets.specs.Versions.{is_other_version};
@@ -34,7 +35,7 @@ use std::marker::Model;
 use std::mem;
 use std::ops::Range;
 
-/// A packet that was received.
+/// The number, the payload and the key phase of a packet that was received.
 #[derive(Clone, PartialEq, Eq, Debug, Drop)]
 pub struct Received {
     /// The packet number.
@@ -115,7 +116,7 @@ impl Receiver {
         Receiver::with_keys(version, header, current, Some(secret))
     }
 
-    /// Creates a receiver with keys of the caller's, which have the lengths of the suite.
+    /// Creates a receiver with keys of the caller's, which must have the key lengths of the suite.
     ///
     /// Fails with `KeyLength` if a key is not as long as the suite's.
     pub fn new(suite: Suite, keys: Keys<'_>) -> Result<Self, KeyError>
@@ -129,7 +130,7 @@ impl Receiver {
         Ok(Receiver::with_keys(keys.version, header, current, None))
     }
 
-    /// Creates a receiver with these keys, which are those of the secret if there is one.
+    /// Creates a receiver with these keys. `secret` is their secret, or `None` for keys of the caller's.
     fn with_keys(
         version: Version,
         header: HeaderKey,
@@ -153,8 +154,8 @@ impl Receiver {
         }
     }
 
-    /// Sets the key of the next phase, unless it is set: that of the next secret (RFC 9001 section 6.1). It becomes the current
-    /// key when it first opens a packet. The header key is unchanged (section 6).
+    /// Sets the key of the next phase to that of the next secret, unless it is set already (RFC 9001 section 6.1). It becomes
+    /// the current key when it first opens a packet. The header key is unchanged (section 6).
     ///
     /// A peer may initiate the first key update once the handshake is confirmed, and each later one once it has received an
     /// acknowledgment of a packet of the current phase (section 6.1). A peer that answers a key update of this endpoint need not
@@ -180,8 +181,8 @@ impl Receiver {
         Ok(())
     }
 
-    /// Sets the key and the IV of the next phase to the caller's, at the times that `set_next` names. It replaces a next key that
-    /// is already set, whereas `set_next` keeps it.
+    /// Sets the key and the IV of the next phase to the caller's, at the times that `set_next` describes. It replaces a next
+    /// key that is already set, whereas `set_next` keeps it.
     ///
     /// Fails with `KeysDerived` if the receiver is made of a secret, and with `KeyLength` if `key` is not as long as the suite's
     /// keys. The receiver is then unchanged.
@@ -255,12 +256,12 @@ impl Receiver {
         ensures outcome { ReceiveOutcome self.old space.old failures.old parts.now datagram.old result
             self.new space.new failures.new datagram.new }
     {
-        let number_at = self.place_of_number(failures, parts, datagram.len())?;
+        let number_at = self.check_readable(failures, parts, datagram.len())?;
         let start = parts.start;
         let packet = &mut datagram[start..parts.end];
-        match self.open(space.largest(), packet, number_at, start) {
+        match self.unprotect_and_open(space.largest(), packet, number_at, start) {
             Ok((first, received)) => {
-                self.admit(space, first, &received)?;
+                self.accept_opened(space, first, &received)?;
                 Ok(received)
             }
             Err(error) => {
@@ -270,8 +271,8 @@ impl Receiver {
         }
     }
 
-    /// The position of the packet number, counted from the packet, if the packet is to be read.
-    fn place_of_number(
+    /// Checks that the packet may be read, and returns the position of its number, counted from the packet's first byte.
+    fn check_readable(
         &self,
         failures: &Failures,
         parts: &Packet,
@@ -300,9 +301,9 @@ impl Receiver {
         Ok(number_at - parts.start)
     }
 
-    /// Unmasks the header, decodes the number and opens the packet. Writes the header's masked bytes back if it fails. Also
-    /// returns the header's first byte.
-    fn open(
+    /// Unmasks the header, decodes the number and opens the packet. Returns the header's first byte as well. If opening fails,
+    /// it writes the header's masked bytes back.
+    fn unprotect_and_open(
         &self,
         largest: Option<u64>,
         packet: &mut [u8],
@@ -349,7 +350,7 @@ impl Receiver {
         }
     }
 
-    /// The key of a packet, if it is held.
+    /// Returns the key of a packet with this first byte and number, or `None` if it isn't held.
     fn key_of(&self, first: u8, number: u64) -> Option<&PacketKey>
         ensures { option_copied result ≡ key_of self.now first number }
     {
@@ -362,22 +363,22 @@ impl Receiver {
         }
     }
 
-    /// Whether a packet with this first byte is of the other key phase.
+    /// Returns whether a packet with this first byte is of the other key phase.
     fn is_other_phase(&self, first: u8) -> bool
         ensures { result ≡ is_other_phase self.now first }
     {
         first & (LONG_HEADER_FORM | KEY_PHASE_BIT) == if self.phase { 0 } else { KEY_PHASE_BIT }
     }
 
-    /// The key that a packet is opened with. If its own is not held, this is the current one, so that rejecting it takes as
-    /// long.
+    /// Returns the key with which a packet is opened. If the packet's own key is not held, this is the current key, so that
+    /// rejecting the packet takes as long.
     fn opening_key(&self, first: u8, number: u64) -> &PacketKey
         ensures { result.now ≡ opening_key self.now first number }
     {
         self.key_of(first, number).unwrap_or(&self.current)
     }
 
-    /// The highest number that was opened under the keys before a packet's key.
+    /// Returns the highest number that was opened under keys before that of the packet.
     fn highest_before(&self, first: u8, number: u64) -> u64
         ensures { result ≡ highest_before self.now first number }
     {
@@ -390,15 +391,16 @@ impl Receiver {
         }
     }
 
-    /// Whether the key of a packet is held and its number is consistent with the key phase.
+    /// Returns whether the key of a packet is held and its number is consistent with its key phase.
     fn is_in_turn(&self, first: u8, number: u64) -> bool
         ensures { IsTrue result ↔ IsInTurn self.now first number }
     {
         self.key_of(first, number).is_some() && number >= self.highest_before(first, number)
     }
 
-    /// Updates the state for a packet that was received.
-    fn move_on(&mut self, first: u8, number: u64)
+    /// Records a packet that was received: its number in the phase of its key, and a new phase if it is the first of the next
+    /// key.
+    fn record_received(&mut self, first: u8, number: u64)
         ensures { self.new ≡ received self.old first number }
     {
         if !self.is_other_phase(first) {
@@ -407,12 +409,12 @@ impl Receiver {
         } else if number < self.lowest {
             self.highest_previous = self.highest_previous.max(number);
         } else {
-            self.update(number);
+            self.enter_next_phase(number);
         }
     }
 
-    /// Makes the next key the current one, if it is held.
-    fn update(&mut self, number: u64)
+    /// Makes the next key the current one, if it is held, and begins its phase with this number.
+    fn enter_next_phase(&mut self, number: u64)
         ensures { self.new ≡ updated self.old number self.old.next }
     {
         if let Some(next) = self.next.take() {
@@ -425,16 +427,16 @@ impl Receiver {
         }
     }
 
-    /// Accepts a packet that was opened, and counts its number as received.
-    fn admit<const W: usize>(
+    /// Checks a packet that was opened, and counts its number as received if it passes.
+    fn accept_opened<const W: usize>(
         &mut self,
         space: &mut Space<W>,
         first: u8,
         opened: &Received,
     ) -> Result<(), ReceiveError>
         requires { IsNumber opened.now.number }
-        ensures accepted { IsOk result ↔ IsAdmitted self.old space.old first opened.now }
-        ensures refused { IfErr result (AdmitRefuses self.old space.old first opened.now) }
+        ensures accepted { IsOk result ↔ IsAcceptable self.old space.old first opened.now }
+        ensures refused { IfErr result (AcceptRefuses self.old space.old first opened.now) }
         ensures moved_on { OnOk result (self.new ≡ received self.old first opened.now.number) }
         ensures marked { OnOk result (Marks space.old opened.now.number space.new) }
         ensures kept { OnErr result ((self.new ≡ self.old) × (space.new ≡ space.old)) }
@@ -458,7 +460,7 @@ impl Receiver {
             return Err(ReceiveError::NoFrames);
         }
         space.mark(number);
-        self.move_on(first, number);
+        self.record_received(first, number);
         Ok(())
     }
 }

@@ -1,4 +1,4 @@
-//! The integrity of Retry packets (RFC 9001 section 5.8, RFC 9369 section 3.3.3).
+//! The integrity tag of Retry packets (RFC 9001 section 5.8, RFC 9369 section 3.3.3).
 
 ghost use Rattle.std.specs.Prelude.{◌≡◌, ◌^◌, ◌<◌, ◌≤◌, ◌↔◌, ◌++◌, [], length, IsOk, IfOk, IsOkUnless, IsErrOf, IsTrue};
 ghost use Rattle.aead_ciphers_base.specs.Aes.{aes};
@@ -47,8 +47,8 @@ pub enum RetryError {
 /// Returns the integrity tag of a Retry packet of a version, the last 16 bytes of the packet (RFC 9001 section 5.8, RFC 9369
 /// section 3.3.3).
 ///
-/// `header` and `token` are the packet without its tag, cut anywhere, and `original_id` the destination connection ID of the
-/// client's first packet. No memory is allocated.
+/// `header` and `token` together are the packet without its tag, cut at any byte. `original_id` is the destination connection
+/// ID of the client's first packet. No memory is allocated.
 ///
 /// Fails with `IdTooLong` if `original_id` has more than 20 bytes, and with `TooLong` if the ID, a byte for its length, `header`
 /// and `token` together have 2^61 bytes or more (SP 800-38D section 5.2.1.1).
@@ -74,11 +74,11 @@ pub fn retry_tag(
 
 /// Returns whether a Retry packet of a version ends with its integrity tag (RFC 9001 section 5.8, RFC 9369 section 3.3.3).
 ///
-/// `header` and `payload` are the packet, cut anywhere before its last 16 bytes, which are the tag. `original_id` is the
+/// `header` and `payload` together are the packet, cut at any byte before its last 16, which are the tag. `original_id` is the
 /// destination connection ID of the client's first packet.
 ///
-/// Returns `false` as well if `original_id` has more than 20 bytes, or if `payload` has fewer than 16, or as many bytes as make
-/// `retry_tag` fail.
+/// It also returns `false` if `original_id` has more than 20 bytes, if `payload` has fewer than 16, or if the packet is so long
+/// that `retry_tag` fails.
 pub fn is_genuine_retry(version: Version, original_id: &[u8], header: &[u8], payload: &[u8]) -> bool
     ensures { IsTrue result ↔ ((length original_id.now ≤ 20) × (16 ≤ length payload.now)
         × IsGenuineRetry version original_id.now (header.now ++ payload.now)) }
@@ -93,7 +93,7 @@ pub fn is_genuine_retry(version: Version, original_id: &[u8], header: &[u8], pay
     }
 }
 
-/// The key of the tag.
+/// Returns the key under which a version computes the tag.
 fn retry_key(version: Version) -> [u8; 16]
     ensures { result ≡ retry_key version }
 {
@@ -103,7 +103,7 @@ fn retry_key(version: Version) -> [u8; 16]
     }
 }
 
-/// Its nonce.
+/// Returns the nonce with which a version computes the tag.
 fn retry_nonce(version: Version) -> [u8; NONCE_LEN]
     ensures { result ≡ retry_nonce version }
 {
@@ -113,7 +113,7 @@ fn retry_nonce(version: Version) -> [u8; NONCE_LEN]
     }
 }
 
-/// The tag of AES-128-GCM for an empty plaintext, whose AAD is these four parts.
+/// Returns the tag of AES-128-GCM for an empty plaintext, with these four parts joined as AAD.
 fn tag_of<'a>(
     version: Version,
     id_len: &'a [u8],

@@ -2,8 +2,8 @@
 
 use thiserror::Error;
 
-/// The error of sealing or sending a packet, which is then unchanged, and so are the key, the sender and the connection. None closes
-/// a connection.
+/// The error of sealing or sending a packet. The packet, the key, the sender and the connection are then unchanged. None of
+/// these errors closes a connection.
 #[derive(Clone, Copy, PartialEq, Eq, Debug, Drop, Error)]
 pub enum SendError {
     /// The connection does not have the keys of the level.
@@ -45,9 +45,9 @@ pub enum SendError {
     /// section 12.3).
     #[error("the packet number is not below 2^62")]
     NumbersEnded,
-    /// The key has sealed as many packets as its limit allows (RFC 9001 section 6.6). A key update follows it. The key cannot seal
-    /// the packet that closes the connection either, so a caller that cannot update closes it with `AEAD_LIMIT_REACHED` (0x0f)
-    /// while `Sender::remaining` is above 0.
+    /// The key has sealed as many packets as its limit allows (RFC 9001 section 6.6). A key update follows it. The key cannot
+    /// seal the packet that closes the connection either, so a caller that cannot update closes it with `AEAD_LIMIT_REACHED`
+    /// (0x0f) while `Sender::remaining` is above 0.
     #[error("the key has reached its limit of packets")]
     KeyUsedUp,
     /// The output does not have the length of the result.

@@ -1,4 +1,5 @@
-//! Sending packets, each in one call, over key updates (RFC 9001 sections 5 and 6).
+//! Sending the packets of one number space, over key updates: numbering, sealing and masking each in one call, skipping
+//! numbers, and recording acknowledgments (RFC 9001 sections 5 and 6).
 
 ghost use Rattle.std.specs.Prelude.{◌≡◌, ℕ, ◌≢◌, ◌+◌, ◌-◌, ◌^◌, ◌<◌, ◌≤◌, ◌↔◌, true, false, min, length, IsOk, IfOk, IsErrOf, IsOkUnless, IsSome, IfSome, IsFalse, IsTrue, OnOk, OnErr, Some, None, IfErr};
 ghost use Rattle.aead_ciphers.specs.Algorithm.{key_len};
@@ -7,7 +8,7 @@ ghost use Rattle.quic_packets.specs.Packet.{IsNumber};
 ghost use Rattle.quic_packets.specs.Sending.{HasKeyLengths, IsEncodable, IsInTurn, IsRoom, IsSealable, IsUnanswered, NumberRefuses, PacketRefuses, SendOutcome, SenderRefuses, after_acknowledgement, after_send, after_skip, after_update, first_byte, header_version, is_retry_or_version_negotiation, new_sender, numbered_packet, with_installed_keys, after_derived_update, is_unsent};
 ghost use Rattle.quic_packets.specs.Versions.{is_other_version};
 
-use crate::datagram::version;
+use crate::datagram::version_at;
 use crate::first_byte::{KEY_PHASE_BIT, LONG_MASKED_BITS, SHORT_MASKED_BITS, is_long};
 use crate::fixed_bit::FixedBit;
 use crate::header::{HeaderKey, MAX_NUMBER_LEN, SAMPLE_END};
@@ -33,8 +34,8 @@ pub const CONFIDENTIALITY_LIMIT: u64 = 1 << 23;
 
 /// Sends the packets of one number space in one direction, under one key after another.
 ///
-/// No number is used twice, not even under different keys. One key seals at most 2^23 packets if all of its keys differ: one that is
-/// given again is counted anew.
+/// No number is used twice, not even under different keys. Each key seals at most 2^23 packets, as long as all keys differ: a
+/// key that the caller gives again is counted from 0 again.
 ///
 /// # Examples
 ///
@@ -58,7 +59,7 @@ pub struct Sender {
     version: Version,
     key: PacketKey,
     header_key: HeaderKey,
-    /// The secret of `key`. `None` if the sender is made of keys.
+    /// The secret of `key`, or `None` if the sender was created with keys of the caller's.
     secret: Option<QuicSecret>,
     /// The number of the next packet.
     next: u64,
@@ -126,7 +127,8 @@ impl Sender {
         Sender::with_keys(version, key, header_key, Some(secret), first)
     }
 
-    /// Creates a sender with keys of the caller's, which have the lengths of the suite. The first packet has the number `first`.
+    /// Creates a sender with keys of the caller's, which must have the key lengths of the suite. The first packet has the
+    /// number `first`.
     ///
     /// The Key Phase bit is 0, and the handshake is not confirmed.
     ///
@@ -146,7 +148,7 @@ impl Sender {
         Sender::with_keys(keys.version, key, header_key, None, first)
     }
 
-    /// Creates a sender with these keys, which are those of the secret if there is one.
+    /// Creates a sender with these keys. `secret` is their secret, or `None` for keys of the caller's.
     fn with_keys(
         version: Version,
         key: PacketKey,
@@ -222,8 +224,8 @@ impl Sender {
         self.limit
     }
 
-    /// Returns how many packets can still be sent without a key update: as many as the limit leaves to the current key, or as
-    /// the space leaves numbers, whichever is less.
+    /// Returns how many packets can still be sent without a key update: the number of packets that the current key may still
+    /// seal, or the number of packet numbers that are left in the space, whichever is lower.
     pub fn remaining(&self) -> u64
         ensures { result ≡ min (self.now.limit - self.now.sealed) (2 ^ 62 - self.now.next) }
     {
@@ -238,9 +240,9 @@ impl Sender {
         self.phase
     }
 
-    /// Returns the first number of the current key phase: the next number when the sender was created, keys were installed, or
-    /// the keys were last updated. A number that was sent is of the current phase if it isn't below this one, and of an earlier
-    /// phase otherwise. `skip_to` doesn't change it.
+    /// Returns the first number of the current key phase: the next number at the time when the sender was created, keys were
+    /// installed, or the keys were last updated. A packet that was sent is of the current phase if its number isn't below this
+    /// one, and of an earlier phase otherwise. `skip_to` doesn't change it.
     pub fn first_of_phase(&self) -> u64
         ensures { result ≡ self.now.first_of_phase }
     {
@@ -283,7 +285,7 @@ impl Sender {
             return Err(NumberError::NumbersEnded);
         }
         if number > self.next {
-            let forgotten = self.skipped.add(self.next, number);
+            let forgotten = self.skipped.add_range(self.next, number);
             self.first = self.first.max(forgotten);
         }
         self.next = number;
@@ -325,8 +327,8 @@ impl Sender {
         Ok(())
     }
 
-    /// Records what `acknowledged` does, for an acknowledgment that came in a packet with this Key Phase bit, which is
-    /// `Received::phase`.
+    /// Records an acknowledgment as `acknowledged` does, where `phase` is the Key Phase bit of the packet that brought it
+    /// (`Received::phase`).
     ///
     /// Fails with `NeverSent` as `acknowledged` does, and with `UpdateUnanswered` if `phase` differs from the sender's and
     /// `number` is not below `first_of_phase`: the peer received a packet of the current keys, and answered it under older ones.
@@ -349,7 +351,7 @@ impl Sender {
         self.acknowledged(number)
     }
 
-    /// Whether this number was not sent, so far as the ranges of skipped numbers tell.
+    /// Returns whether this number was not sent, as far as the ranges of skipped numbers tell.
     fn is_unsent(&self, number: u64) -> bool
         ensures { result ≡ is_unsent self.now number }
     {
@@ -441,7 +443,7 @@ impl Sender {
         };
         let next = secret.next();
         let key = PacketKey::from_secret(&next);
-        self.update(key, Some(next));
+        self.start_next_phase(key, Some(next));
         Ok(())
     }
 
@@ -464,12 +466,12 @@ impl Sender {
             return Err(KeyError::KeysDerived);
         }
         let key = PacketKey::new(self.key.algorithm(), key, iv)?;
-        self.update(key, None);
+        self.start_next_phase(key, None);
         Ok(())
     }
 
-    /// Continues with this key, in the other key phase.
-    fn update(&mut self, key: PacketKey, secret: Option<QuicSecret>)
+    /// Continues with this key, in the next key phase, which begins with the next number.
+    fn start_next_phase(&mut self, key: PacketKey, secret: Option<QuicSecret>)
         ensures { self.new ≡ after_update self.old key secret }
     {
         self.key = key;
@@ -591,7 +593,8 @@ impl Sender {
         Ok(next)
     }
 
-    /// Checks that the next number can be sent in this room.
+    /// Checks that the key may seal another packet, and that the next number can be written from byte `number_at` up to
+    /// `header_len`.
     fn check_number(&self, number_at: usize, header_len: usize) -> Result<(), SendError>
         ensures accepted { IsOk result ↔ IsInTurn self.now number_at header_len }
         ensures refused { IfErr result (NumberRefuses self.now number_at header_len) }
@@ -651,19 +654,19 @@ fn check_packet(
     Ok(())
 }
 
-/// The version in a long header. `None` for a short one.
+/// Returns the version in a long header, or `None` for a short one.
 fn header_version(packet: &[u8]) -> Option<u32>
     requires { 5 ≤ length packet.now }
     ensures { result ≡ header_version packet.now }
 {
     if is_long(packet[0]) {
-        Some(version(packet, 0))
+        Some(version_at(packet, 0))
     } else {
         None
     }
 }
 
-/// Whether the header is of a type without protection: Version Negotiation or, by the bits of this version, Retry.
+/// Returns whether the header is of a type without protection: Version Negotiation or, by the type bits of this version, Retry.
 fn is_retry_or_version_negotiation(version: Version, packet: &[u8]) -> bool
     requires { 5 ≤ length packet.now }
     ensures { result ≡ is_retry_or_version_negotiation version packet.now }
@@ -676,7 +679,7 @@ fn is_retry_or_version_negotiation(version: Version, packet: &[u8]) -> bool
     is_long(packet[0]) && (is_retry || is_version_negotiation)
 }
 
-/// Writes the packet number and the first byte.
+/// Writes the packet number, and into the first byte its length and the key phase.
 fn write_number(packet: &mut [u8], number_at: usize, header_len: usize, number: u64, phase: bool)
     requires after_first { 0 < number_at }
     requires some { number_at < header_len }
@@ -691,7 +694,8 @@ fn write_number(packet: &mut [u8], number_at: usize, header_len: usize, number: 
     packet[0] = first_byte(first, len, phase);
 }
 
-/// The first byte of a header with a packet number of this length.
+/// Returns the first byte of a header with the length of the packet number and, in a short header, the key phase. The reserved
+/// bits are 0.
 fn first_byte(first: u8, number_len: usize, phase: bool) -> u8
     requires { (0 < number_len) × (number_len ≤ 4) }
     ensures { result ≡ first_byte phase number_len first }

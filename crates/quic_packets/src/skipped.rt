@@ -1,4 +1,4 @@
-//! The packet numbers that a sender has skipped.
+//! The packet numbers that a sender has skipped: the eight highest ranges of them (RFC 9000 section 21.4).
 
 ghost use Rattle.std.specs.Prelude.{◌≡◌};
 ghost use Rattle.quic_packets.specs.Skipped.{forgotten, is_skipped, no_gaps, with_gap};
@@ -8,7 +8,7 @@ use std::marker::Model;
 /// The number of ranges that are kept.
 const GAPS: usize = 8;
 
-/// A range of numbers.
+/// A range of skipped packet numbers.
 #[derive(Clone, Copy)]
 pub(crate) struct Gap {
     /// The first number.
@@ -17,7 +17,7 @@ pub(crate) struct Gap {
     pub(crate) end: u64,
 }
 
-/// The highest ranges of the numbers that were skipped, the last one first. Before eight are kept, the others are empty.
+/// The highest ranges of packet numbers that were skipped, the last one first. Until there are eight, the rest are empty.
 #[derive(Drop)]
 pub(crate) struct Skipped {
     gaps: [Gap; GAPS],
@@ -33,7 +33,7 @@ impl Model for Skipped {
 }
 
 impl Skipped {
-    /// No number is skipped.
+    /// Creates the ranges of a sender that has skipped no number.
     pub(crate) fn new() -> Self
         ensures { result ≡ no_gaps }
     {
@@ -42,7 +42,7 @@ impl Skipped {
         }
     }
 
-    /// Whether the number is in a range that is kept.
+    /// Returns whether the number is in a range that is kept.
     pub(crate) fn contains(&self, number: u64) -> bool
         ensures { result ≡ is_skipped self.now number }
     {
@@ -51,9 +51,9 @@ impl Skipped {
             .any(|gap| gap.start <= number && number < gap.end)
     }
 
-    /// Adds the numbers from `start` up to `end`, which are above the others, and returns the end of the range that is forgotten
-    /// for them, or 0.
-    pub(crate) fn add(&mut self, start: u64, end: u64) -> u64
+    /// Adds the numbers from `start` up to `end`, which are above those of all ranges. Returns the end of the range that is
+    /// forgotten to make room, or 0 if none is.
+    pub(crate) fn add_range(&mut self, start: u64, end: u64) -> u64
         ensures gaps { self.new ≡ with_gap self.old start end }
         ensures forgotten { result ≡ forgotten self.old start }
     {

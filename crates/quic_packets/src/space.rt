@@ -1,6 +1,6 @@
-//! The packet numbers that were received in one space (RFC 9000 section 12.3).
+//! The packet numbers that were received in one packet number space, and their ranges for an ACK frame (RFC 9000 section 12.3).
 
-ghost use Rattle.std.specs.Prelude.{◌≡◌, ℕ, ◌+◌, ◌-◌, ◌*◌, ◌/◌, ◌%◌, ◌<◌, ◌≤◌, ◌↔◌, length, IsTrue, MatchOption};
+ghost use Rattle.std.specs.Prelude.{◌≡◌, ℕ, ◌+◌, ◌-◌, ◌*◌, ◌/◌, ◌%◌, ◌<◌, ◌≤◌, ◌↔◌, if◌then◌else◌, length, IsTrue, MatchOption};
 ghost use Rattle.quic_packets.specs.Numbers.{expected};
 ghost use Rattle.quic_packets.specs.Packet.{IsNumber};
 ghost use Rattle.quic_packets.specs.Space.{IsNew, IsReceived, Marks, ShareBit, bit_of, new_space};
@@ -8,10 +8,11 @@ ghost use Rattle.quic_packets.specs.Space.{IsNew, IsReceived, Marks, ShareBit, b
 use std::marker::Model;
 use std::ops::Range;
 
-/// The numbers of one word of the window.
+/// How many packet numbers one word of the window has.
 const WORD: u64 = u64::BITS as u64;
 
-/// The largest packet number that was received in one space, and which of the `64 * W` numbers up to it were. `W` is from 2 to 64.
+/// The largest packet number that was received in one space, and which of the `64 * W` numbers up to it were. `W` is from 2 to
+/// 64.
 ///
 /// 0-RTT and 1-RTT packets share one space. Initial and Handshake packets have one each (RFC 9000 section 12.3).
 #[derive(Drop)]
@@ -76,31 +77,31 @@ impl<const W: usize> Space<W> {
         }
     }
 
-    /// Counts a number as received.
+    /// Counts a new number as received.
     pub(crate) fn mark(&mut self, number: u64)
         requires number { IsNumber number }
         requires unseen { IsNew self.old number }
         ensures { Marks self.old number self.new }
     {
         if number < self.next {
-            set(&mut self.seen, number);
+            set_seen(&mut self.seen, number, true);
             return;
         }
         let lowest = (number + 1).saturating_sub(WORD * W as u64);
-        clear(&mut self.seen, self.next.max(lowest), number + 1);
-        set(&mut self.seen, number);
+        clear_range(&mut self.seen, self.next.max(lowest), number + 1);
+        set_seen(&mut self.seen, number, true);
         self.next = number + 1;
     }
 
-    /// The lowest number that the window reaches.
+    /// Returns the lowest number that the window reaches.
     fn lowest(&self) -> u64
         ensures { result ≡ self.now.next - 64 * length self.now.seen }
     {
         self.next.saturating_sub(WORD * W as u64)
     }
 
-    /// The highest number below `below` that was received.
-    fn last_below(&self, below: u64) -> Option<u64>
+    /// Returns the highest number below `below` that was received, or `None` if the window has none.
+    fn last_received_below(&self, below: u64) -> Option<u64>
         ensures { MatchOption result ((n : ℕ) → n < below → ¬ IsReceived self.now n)
             (λ last. (last < below) × IsReceived self.now last × ((n : ℕ) → last < n → n < below
             → ¬ IsReceived self.now n)) }
@@ -116,8 +117,8 @@ impl<const W: usize> Space<W> {
         None
     }
 
-    /// The first number of the range of received numbers that has `last`.
-    fn first_of(&self, last: u64) -> u64
+    /// Returns the first number of the range of received numbers to which `last` belongs.
+    fn first_of_range(&self, last: u64) -> u64
         requires { IsReceived self.now last }
         ensures within { result ≤ last }
         ensures received { (n : ℕ) → result ≤ n → n ≤ last → IsReceived self.now n }
@@ -132,11 +133,11 @@ impl<const W: usize> Space<W> {
     }
 }
 
-/// An iterator over the ranges of received numbers, from the highest down. `Space::ranges` makes it.
+/// An iterator over the ranges of received numbers, from the highest down. `Space::ranges` creates it.
 #[derive(Drop)]
 pub struct Ranges<'a, const W: usize> {
     space: &'a Space<W>,
-    /// The ranges that are left lie below this number.
+    /// The ranges still to be returned lie below this number.
     below: u64,
 }
 
@@ -162,14 +163,14 @@ impl<'a, const W: usize> Iterator for Ranges<'a, W> {
     ghost remaining = { λ ranges. at_most ranges.below };
 
     fn next(&mut self) -> Option<Range<u64>> {
-        let last = self.space.last_below(self.below)?;
-        let first = self.space.first_of(last);
+        let last = self.space.last_received_below(self.below)?;
+        let first = self.space.first_of_range(last);
         self.below = first;
         Some(first..last + 1)
     }
 }
 
-/// The word with the bit of a number.
+/// Returns the index of the word that has the bit of a number.
 fn word_of(words: usize, number: u64) -> usize
     requires { 0 < words }
     ensures is { result ≡ number / 64 % words }
@@ -178,7 +179,7 @@ fn word_of(words: usize, number: u64) -> usize
     (number / WORD) as usize % words
 }
 
-/// Whether the bit of a number is set.
+/// Returns whether the bit of a number is 1.
 fn is_seen(seen: &[u64], number: u64) -> bool
     requires { 0 < length seen.now }
     ensures { IsTrue result ↔ (bit_of seen.now number ≡ 1) }
@@ -186,28 +187,23 @@ fn is_seen(seen: &[u64], number: u64) -> bool
     (seen[word_of(seen.len(), number)] >> (number % WORD)) & 1 == 1
 }
 
-/// Sets the bit of a number.
-fn set(seen: &mut [u64], number: u64)
+/// Sets the bit of a number to 1 if `value` is true, and to 0 otherwise.
+fn set_seen(seen: &mut [u64], number: u64, value: bool)
     requires { 0 < length seen.old }
-    ensures here { bit_of seen.new number ≡ 1 }
+    ensures here { bit_of seen.new number ≡ (if value then 1 else 0) }
     ensures others { (n : ℕ) → ¬ ShareBit (length seen.old) n number → bit_of seen.new n ≡ bit_of seen.old n }
 {
     let word = word_of(seen.len(), number);
-    seen[word] |= 1 << (number % WORD);
+    let bit = 1 << (number % WORD);
+    if value {
+        seen[word] |= bit;
+    } else {
+        seen[word] &= !bit;
+    }
 }
 
-/// Clears the bit of a number.
-fn clear_one(seen: &mut [u64], number: u64)
-    requires { 0 < length seen.old }
-    ensures here { bit_of seen.new number ≡ 0 }
-    ensures others { (n : ℕ) → ¬ ShareBit (length seen.old) n number → bit_of seen.new n ≡ bit_of seen.old n }
-{
-    let word = word_of(seen.len(), number);
-    seen[word] &= !(1 << (number % WORD));
-}
-
-/// Clears the bits of the numbers from `from` up to `to`.
-fn clear(seen: &mut [u64], from: u64, to: u64)
+/// Sets the bits of the numbers from `from` up to `to` to 0.
+fn clear_range(seen: &mut [u64], from: u64, to: u64)
     requires some { 0 < length seen.old }
     requires ordered { from ≤ to }
     ensures cleared { (n : ℕ) → from ≤ n → n < to → bit_of seen.new n ≡ 0 }
@@ -215,6 +211,6 @@ fn clear(seen: &mut [u64], from: u64, to: u64)
         → bit_of seen.new n ≡ bit_of seen.old n }
 {
     for number in from..to {
-        clear_one(seen, number);
+        set_seen(seen, number, false);
     }
 }

@@ -1,4 +1,5 @@
-//! What depends on the version in a long header (RFC 9000 section 17.2, RFC 9369 sections 3.1 and 3.2).
+//! The parts of a long header that depend on its version: the type bits, and the version number (RFC 9000 section 17.2, RFC
+//! 9369 sections 3.1 and 3.2).
 
 ghost use Rattle.std.specs.Prelude.{◌≡◌, ◌<◌};
 ghost use Rattle.quic_packets.specs.Versions.{bits_of, is_other_version, type_bits, type_of};
@@ -7,7 +8,7 @@ use crate::datagram::PacketType;
 use crate::first_byte::{LONG_TYPE_BITS, LONG_TYPE_SHIFT};
 use key_derivation::quic::Version;
 
-/// The type bits of the packets with a long header.
+/// The type bits of each packet type with a long header, in one version.
 #[derive(Clone, Copy)]
 pub(crate) struct TypeBits {
     pub(crate) initial: u8,
@@ -16,7 +17,7 @@ pub(crate) struct TypeBits {
     pub(crate) retry: u8,
 }
 
-/// The type bits of each type (RFC 9000 section 17.2, table 5, RFC 9369 section 3.2).
+/// Returns the type bits of each packet type in this version (RFC 9000 section 17.2, table 5, RFC 9369 section 3.2).
 pub(crate) fn type_bits(version: Version) -> TypeBits
     ensures bits { result ≡ type_bits version }
     ensures few { (result.initial < 4) × (result.zero_rtt < 4) × (result.handshake < 4) × (result.retry < 4) }
@@ -37,7 +38,7 @@ pub(crate) fn type_bits(version: Version) -> TypeBits
     }
 }
 
-/// The type with these bits.
+/// Returns the packet type that these type bits have in this version.
 pub(crate) fn type_of(version: Version, bits: u8) -> PacketType
     ensures { result ≡ type_of version bits }
 {
@@ -53,14 +54,15 @@ pub(crate) fn type_of(version: Version, bits: u8) -> PacketType
     }
 }
 
-/// The type bits of a first byte.
+/// Returns the type bits of a long header's first byte.
 pub(crate) fn bits_of(first: u8) -> u8
     ensures { result ≡ bits_of first }
 {
     (first & LONG_TYPE_BITS) >> LONG_TYPE_SHIFT
 }
 
-/// Whether a long header has the number of another version.
+/// Returns whether `number`, the version number of a packet's header, is that of another version. A short header has none,
+/// which is `None`.
 pub(crate) fn is_other_version(version: Version, number: Option<u32>) -> bool
     ensures { result ≡ is_other_version version number }
 {

@@ -1,13 +1,13 @@
-//! The keys of an encryption level, for both directions, and its space of packet numbers.
+//! The keys and packet numbers of one encryption level: its sender, its receiver, and the numbers that were received.
 
 ghost use Rattle.std.specs.Prelude.{◌≡◌, ◌^◌, ◌<◌, ◌≤◌, ◌↔◌, false, Some, None, IsFalse, IsTrue, IsSome, IfSome, IsOk, IsErrOf, IsOkUnless, OnOk, OnErr};
 ghost use Rattle.std.specs.Option.{option_copied};
-ghost use Rattle.quic_packets.specs.Ends.{EndOutcome, Installs, after_discard, confirmed, following, forgotten, in_phase, initiated, installed, is_confirmed, is_due, kept_back, may_update, no_ends, peer_update, phase_of, renewed, renews, sent, update_into, with_next_key};
+ghost use Rattle.quic_packets.specs.Ends.{EndOutcome, Installs, after_discard, confirmed, following, forgotten, in_phase, initiated, initiates_update, installed, is_confirmed, is_update_due, kept_for_close, may_update, no_ends, peer_update, phase_of, sent, update_into, updated_if_due, with_next_key};
 ghost use Rattle.quic_packets.specs.Keys.{secret_header_key, secret_key};
 ghost use Rattle.quic_packets.specs.Receiving.{ReceiveOutcome, new_receiver};
 ghost use Rattle.quic_packets.specs.Sending.{IsUnanswered, after_acknowledgement, after_skip, is_unsent};
 
-use crate::connection::incoming::{Opened, PeerUpdate};
+use crate::connection::incoming::{Attempt, PeerUpdate};
 use crate::datagram::Packet;
 use crate::failures::Failures;
 use crate::fixed_bit::FixedBit;
@@ -22,7 +22,7 @@ use key_derivation::quic::QuicSecret;
 use std::marker::Model;
 use std::ops::Range;
 
-/// A packet that was sent.
+/// The number of a packet that was sent, and whether a key update followed it.
 #[derive(Clone, Copy, PartialEq, Eq, Debug, Drop)]
 pub struct SentPacket {
     /// The packet number.
@@ -31,16 +31,16 @@ pub struct SentPacket {
     pub keys_updated: bool,
 }
 
-/// The packets that are left to a key when it is updated, unless half of its limit is fewer.
+/// A key update is due once fewer packets than this are left to the key, and fewer than half of its limit.
 const LEFT_AT_UPDATE: u64 = 1 << 16;
 
-/// What an end has of a level.
+/// The keys and packet numbers of one encryption level.
 #[derive(Drop)]
 pub(crate) struct Ends<const W: usize> {
     sender: Option<Sender>,
     receiver: Option<Receiver>,
     space: Space<W>,
-    /// Whether the keys were dropped, so that none can be installed.
+    /// Whether the keys were discarded, so that none can be installed.
     is_discarded: bool,
 }
 
@@ -61,7 +61,7 @@ impl<const W: usize> Model for Ends<W> {
 }
 
 impl<const W: usize> Ends<W> {
-    /// A level without keys.
+    /// Creates a level without keys.
     pub(crate) fn new() -> Self
         requires some { 2 ≤ W }
         requires few { W ≤ 64 }
@@ -75,36 +75,36 @@ impl<const W: usize> Ends<W> {
         }
     }
 
-    /// The sender, if it is there.
+    /// Returns the sender, or `None` if no keys are installed for it.
     pub(crate) fn sender(&self) -> Option<&Sender>
         ensures { option_copied result ≡ self.now.sender }
     {
         self.sender.as_ref()
     }
 
-    /// The numbers that were received.
+    /// Returns the numbers that were received.
     pub(crate) fn space(&self) -> &Space<W>
         ensures { result.now ≡ self.now.space }
     {
         &self.space
     }
 
-    /// Whether the receiver is there.
+    /// Returns whether the keys of the receiver are installed.
     pub(crate) fn has_receiver(&self) -> bool
         ensures { IsTrue result ↔ IsSome self.now.receiver }
     {
         self.receiver.is_some()
     }
 
-    /// Whether the keys were dropped.
+    /// Returns whether the keys were discarded.
     pub(crate) fn is_discarded(&self) -> bool
         ensures { result ≡ self.now.discarded }
     {
         self.is_discarded
     }
 
-    /// Checks that the keys were not dropped.
-    fn check_undropped(&self) -> Result<(), KeyError>
+    /// Checks that the keys were not discarded, and fails with `Discarded` otherwise.
+    fn check_not_discarded(&self) -> Result<(), KeyError>
         ensures accepted { IsOk result ↔ IsFalse self.now.discarded }
         ensures refused { IsOkUnless result KeyError.Discarded }
     {
@@ -114,12 +114,12 @@ impl<const W: usize> Ends<W> {
         Ok(())
     }
 
-    /// Creates the sender, or continues with the keys of this secret.
+    /// Creates the sender of a secret, or lets the one that is there continue with the keys of the secret.
     pub(crate) fn install_sender(&mut self, secret: QuicSecret, limit: u64) -> Result<(), KeyError>
         ensures installs { Installs self.old.discarded result self.old self.new
             (record self.old { sender = Some (installed self.old.sender secret limit) }) }
     {
-        self.check_undropped()?;
+        self.check_not_discarded()?;
         if let Some(sender) = &mut self.sender {
             let Ok(()) = sender.install_secret(secret) else {
                 unreachable!();
@@ -133,18 +133,18 @@ impl<const W: usize> Ends<W> {
         Ok(())
     }
 
-    /// Creates the receiver, in place of the one that is there.
+    /// Creates the receiver of a secret, in place of the one that is there.
     pub(crate) fn install_receiver(&mut self, secret: QuicSecret) -> Result<(), KeyError>
         ensures installs { Installs self.old.discarded result self.old self.new (record self.old {
           receiver = Some (new_receiver secret.version (secret_header_key secret) (secret_key secret) (Some secret));
         }) }
     {
-        self.check_undropped()?;
+        self.check_not_discarded()?;
         self.receiver = Some(Receiver::from_secret(secret));
         Ok(())
     }
 
-    /// Sets the receiver's next key, unless it is set.
+    /// Sets the receiver's next key, unless it is set or there is no receiver.
     pub(crate) fn set_next_key(&mut self)
         ensures { self.new ≡ with_next_key self.old }
     {
@@ -153,7 +153,7 @@ impl<const W: usize> Ends<W> {
         }
     }
 
-    /// Drops the keys of both directions, so that none can be installed again.
+    /// Discards the keys of both directions, so that none can be installed again.
     pub(crate) fn discard(&mut self)
         ensures { self.new ≡ after_discard self.old }
     {
@@ -162,21 +162,21 @@ impl<const W: usize> Ends<W> {
         self.is_discarded = true;
     }
 
-    /// Sends a packet, if more than `kept_back` packets are left to the key.
+    /// Sends a packet, if the key may seal more than `kept_for_close` packets. No key update follows.
     pub(crate) fn send(
         &mut self,
         packet: &mut [u8],
         number: Range<usize>,
         fixed_bit: FixedBit,
-        kept_back: u64,
+        kept_for_close: u64,
     ) -> Result<SentPacket, SendError>
-        ensures outcome { EndOutcome self.old.sender kept_back fixed_bit number.start number.end packet.old packet.new
+        ensures outcome { EndOutcome self.old.sender kept_for_close fixed_bit number.start number.end packet.old packet.new
             result (λ s. false) self.old self.new (λ s. sent self.old s) }
     {
         let Some(sender) = &mut self.sender else {
             return Err(SendError::NoKeys);
         };
-        if sender.limit().saturating_sub(sender.sealed()) <= kept_back {
+        if sender.limit().saturating_sub(sender.sealed()) <= kept_for_close {
             return Err(SendError::KeyUsedUp);
         }
         let number = sender.send(packet, number, fixed_bit)?;
@@ -186,20 +186,20 @@ impl<const W: usize> Ends<W> {
         })
     }
 
-    /// Sends a 1-RTT packet, updates the keys if that is due, and sets the receiver's next key.
+    /// Sends a 1-RTT packet, initiates a key update if one is due, and sets the receiver's next key.
     pub(crate) fn send_one_rtt(
         &mut self,
         packet: &mut [u8],
         number: Range<usize>,
         fixed_bit: FixedBit,
     ) -> Result<SentPacket, SendError>
-        ensures outcome { EndOutcome self.old.sender (kept_back self.old) fixed_bit number.start number.end
-            packet.old packet.new result (λ s. renews (sent self.old s)) self.old self.new
-            (λ s. with_next_key (renewed (sent self.old s))) }
+        ensures outcome { EndOutcome self.old.sender (kept_for_close self.old) fixed_bit number.start number.end
+            packet.old packet.new result (λ s. initiates_update (sent self.old s)) self.old self.new
+            (λ s. with_next_key (updated_if_due (sent self.old s))) }
     {
-        let kept_back = self.kept_back();
-        let sent = self.send(packet, number, fixed_bit, kept_back)?;
-        let keys_updated = self.renew();
+        let kept_for_close = self.kept_for_close();
+        let sent = self.send(packet, number, fixed_bit, kept_for_close)?;
+        let keys_updated = self.initiate_update_if_due();
         self.set_next_key();
         Ok(SentPacket {
             number: sent.number,
@@ -207,14 +207,15 @@ impl<const W: usize> Ends<W> {
         })
     }
 
-    /// How many packets of a 1-RTT key are kept for the one that closes the connection.
-    fn kept_back(&self) -> u64
-        ensures { result ≡ kept_back self.now }
+    /// Returns how many packets of a 1-RTT key are kept for the packet that closes the connection: one, or none if a key update
+    /// may be initiated.
+    fn kept_for_close(&self) -> u64
+        ensures { result ≡ kept_for_close self.now }
     {
         if self.may_update() { 0 } else { 1 }
     }
 
-    /// Whether a key update may be initiated.
+    /// Returns whether a key update may be initiated (RFC 9001 section 6.1).
     fn may_update(&self) -> bool
         ensures { result ≡ may_update self.now }
     {
@@ -224,9 +225,9 @@ impl<const W: usize> Ends<W> {
         }
     }
 
-    /// Whether few packets are left to the sender's key.
-    fn is_due(&self) -> bool
-        ensures { result ≡ is_due self.now.sender }
+    /// Returns whether so few packets are left to the sender's key that it should be updated.
+    fn is_update_due(&self) -> bool
+        ensures { result ≡ is_update_due self.now.sender }
     {
         match &self.sender {
             Some(sender) => {
@@ -237,8 +238,8 @@ impl<const W: usize> Ends<W> {
         }
     }
 
-    /// Initiates a key update, and drops the receiver's previous key.
-    pub(crate) fn update_keys(&mut self) -> Result<(), KeyError>
+    /// Initiates a key update, and drops the receiver's previous key (RFC 9001 sections 6.1 and 6.5).
+    pub(crate) fn initiate_update(&mut self) -> Result<(), KeyError>
         ensures accepted { IsOk result ↔ IsTrue (may_update self.old) }
         ensures unconfirmed { IsErrOf result KeyError.HandshakeUnconfirmed ↔ ¬ IsTrue (is_confirmed self.old) }
         ensures unacknowledged { IsErrOf result KeyError.PhaseUnacknowledged
@@ -257,15 +258,15 @@ impl<const W: usize> Ends<W> {
         Ok(())
     }
 
-    /// Initiates a key update if one is due and may be initiated, and returns whether it has.
-    pub(crate) fn renew(&mut self) -> bool
-        ensures renewed { self.new ≡ renewed self.old }
-        ensures is { result ≡ renews self.old }
+    /// Initiates a key update if one is due and may be initiated, and returns whether it did.
+    pub(crate) fn initiate_update_if_due(&mut self) -> bool
+        ensures updated { self.new ≡ updated_if_due self.old }
+        ensures is { result ≡ initiates_update self.old }
     {
-        self.is_due() && self.update_keys().is_ok()
+        self.is_update_due() && self.initiate_update().is_ok()
     }
 
-    /// Leaves the sender's numbers below `number` unused.
+    /// Leaves the sender's numbers below `number` unused, as `Sender::skip_to` does.
     pub(crate) fn skip_to(&mut self, number: u64) -> Result<(), NumberError>
         ensures no_keys { IsErrOf result NumberError.NoKeys ↔ ¬ IsSome self.old.sender }
         ensures used { IfSome self.old.sender (λ s. IsErrOf result NumberError.NumberUsed ↔ (number < s.next)) }
@@ -281,7 +282,7 @@ impl<const W: usize> Ends<W> {
         }
     }
 
-    /// Records an acknowledgment.
+    /// Records an acknowledgment, as `Sender::acknowledged_in` does.
     pub(crate) fn acknowledged(&mut self, number: u64, phase: bool) -> Result<(), NumberError>
         ensures no_keys { IsErrOf result NumberError.NoKeys ↔ ¬ IsSome self.old.sender }
         ensures never_sent { IfSome self.old.sender (λ s. IsErrOf result NumberError.NeverSent
@@ -309,7 +310,7 @@ impl<const W: usize> Ends<W> {
         }
     }
 
-    /// Drops the receiver's previous key.
+    /// Drops the receiver's key of the previous phase.
     pub(crate) fn forget_previous(&mut self)
         ensures { self.new ≡ record self.old { receiver = forgotten self.old.receiver } }
     {
@@ -318,8 +319,8 @@ impl<const W: usize> Ends<W> {
         }
     }
 
-    /// Opens a packet with the receiver.
-    pub(crate) fn open(
+    /// Receives a packet with the receiver, as `Receiver::receive` does.
+    pub(crate) fn receive(
         &mut self,
         failures: &mut Failures,
         datagram: &mut [u8],
@@ -339,8 +340,8 @@ impl<const W: usize> Ends<W> {
         receiver.receive(&mut self.space, failures, datagram, parts)
     }
 
-    /// Opens a packet with another receiver, which shares the space.
-    pub(crate) fn open_with(
+    /// Receives a packet with another receiver, and counts its number in the space of this level.
+    pub(crate) fn receive_with(
         &mut self,
         receiver: &mut Receiver,
         failures: &mut Failures,
@@ -355,13 +356,13 @@ impl<const W: usize> Ends<W> {
         receiver.receive(&mut self.space, failures, datagram, parts)
     }
 
-    /// Opens a packet with the receiver, and follows a key update of the peer.
-    pub(crate) fn open_one_rtt(
+    /// Receives a 1-RTT packet. If it is the first that the next keys open, the sender follows the update of the peer.
+    pub(crate) fn receive_one_rtt(
         &mut self,
         failures: &mut Failures,
         datagram: &mut [u8],
         parts: &Packet,
-    ) -> Opened
+    ) -> Attempt
         requires { IsSome self.old.receiver }
         ensures tried { IfSome self.old.receiver (λ r. IfSome self.new.receiver (λ r'. ReceiveOutcome r self.old.space failures.old
             parts.now datagram.old result.outcome r' self.new.space failures.new datagram.new)) }
@@ -380,14 +381,15 @@ impl<const W: usize> Ends<W> {
         let update = if before == after {
             None
         } else {
-            Some(self.enter(after))
+            Some(self.follow_peer_update(after))
         };
-        Opened { outcome, update }
+        Attempt { outcome, update }
     }
 
-    /// Updates the sender's keys, unless it is in this phase, and returns the peer's update by which the receiver has entered it.
-    fn enter(&mut self, phase: bool) -> PeerUpdate
-        ensures entered { self.new ≡ record self.old { sender = in_phase self.old.sender phase } }
+    /// Updates the sender's keys to this phase, which the receiver has entered, unless the sender is in it already. Returns
+    /// which endpoint has initiated the update.
+    fn follow_peer_update(&mut self, phase: bool) -> PeerUpdate
+        ensures followed { self.new ≡ record self.old { sender = in_phase self.old.sender phase } }
         ensures is { result ≡ update_into self.old.sender phase }
     {
         if let Some(sender) = &mut self.sender {

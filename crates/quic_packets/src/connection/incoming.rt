@@ -1,4 +1,5 @@
-//! What becomes of a packet that arrives.
+//! What `Connection::receive` returns for a packet: whether it is received, has no keys yet, is dropped or is ignored, and
+//! where the next packet begins.
 
 ghost use Rattle.std.specs.Prelude.{◌≡◌, None};
 ghost use Rattle.quic_packets.specs.Connection.{given_of};
@@ -7,7 +8,7 @@ use crate::datagram::PacketType;
 use crate::receive_error::ReceiveError;
 use crate::receiver::Received;
 
-/// One packet of a datagram, and where the next one begins.
+/// The step past one packet of a datagram: what became of the packet, and where the next one begins.
 #[derive(Clone, PartialEq, Eq, Debug, Drop)]
 pub struct Step {
     /// The position after the packet, where the next one begins. It is the length of the datagram if there is none.
@@ -16,62 +17,62 @@ pub struct Step {
     pub incoming: Incoming,
 }
 
-/// A key update of the peer, which shows in the first packet that the next keys open (RFC 9001 section 6).
+/// A key update of the peer, which the first packet that the next keys open shows (RFC 9001 section 6).
 #[derive(Clone, Copy, PartialEq, Eq, Debug, Drop)]
 pub enum PeerUpdate {
-    /// The peer has initiated it, and this end's sender, if it is there, has followed it (RFC 9001 section 6.2).
+    /// The peer has initiated the update, and this endpoint's sender, if there is one, has followed it (RFC 9001 section 6.2).
     Initiated,
-    /// This end has initiated it, and the peer has answered: it sends under the next keys too.
+    /// This endpoint has initiated the update, and the peer has answered: it now sends under the next keys too.
     Answered,
 }
 
-/// What became of a packet.
+/// What became of a packet that was passed to `Connection::receive`.
 #[derive(Clone, PartialEq, Eq, Debug, Drop)]
 pub enum Incoming {
-    /// A packet of this type was received, and its payload is decrypted in the datagram. The last value is the key update of the
-    /// peer, if the packet is the first that the next keys opened. From then on the caller counts three times the probe timeout
-    /// until `Connection::forget_previous` (RFC 9001 section 6.5).
+    /// A packet of this type was received, and its payload is decrypted in the datagram. The last value is the key update of
+    /// the peer, if the packet is the first that the next keys opened. The caller then sets a timer to three times the probe
+    /// timeout, after which it calls `Connection::forget_previous` (RFC 9001 section 6.5).
     Packet(PacketType, Received, Option<PeerUpdate>),
-    /// The keys of packets of this type are still to come. Nothing has changed, so the caller may keep the packet until they are
-    /// installed, as far as it has room (RFC 9001 section 5.7).
+    /// The keys for packets of this type are not installed yet. Nothing has changed, so the caller may keep the packet until
+    /// they are, as far as it has room (RFC 9001 section 5.7).
     NoKeys(PacketType),
     /// The packet is dropped for this error, which does not close the connection.
     Dropped(ReceiveError),
-    /// The packet cannot be parsed, has another destination ID than the first one of the datagram (RFC 9000 section 12.2), is of
-    /// a type without keys: Retry, Version Negotiation or another version, or is of a type whose keys the connection has dropped
-    /// or doesn't take (`Connection::discard`, `discard_zero_rtt`). Nothing has changed.
+    /// The packet is ignored, and nothing has changed, for one of three reasons. It cannot be parsed, or has another
+    /// destination ID than the first packet of the datagram (RFC 9000 section 12.2). Its type has no keys: Retry, Version
+    /// Negotiation, or another version. Or the keys for its type are discarded (`Connection::discard`, `discard_zero_rtt`).
     Ignored,
 }
 
-/// What a receiver has returned of a packet that it tried, and the key update of the peer that the packet shows.
+/// The result of giving a packet to its receiver, and the key update of the peer that the packet shows.
 #[derive(Drop)]
-pub(crate) struct Opened {
+pub(crate) struct Attempt {
     pub(crate) outcome: Result<Received, ReceiveError>,
     pub(crate) update: Option<PeerUpdate>,
 }
 
-impl Opened {
-    /// What was returned of a packet without a Key Phase bit.
+impl Attempt {
+    /// Creates the result of a packet that shows no key update, since it isn't a 1-RTT packet.
     pub(crate) fn without_phase(outcome: Result<Received, ReceiveError>) -> Self
         ensures { result ≡ record { outcome = outcome; update = None } }
     {
-        Opened {
+        Attempt {
             outcome,
             update: None,
         }
     }
 }
 
-/// The step past a packet that a receiver has tried, or the error that closes the connection.
-pub(crate) fn step_of(
+/// Returns the step past a packet that was given to its receiver, or the error if it closes the connection.
+pub(crate) fn step_or_close(
     next: usize,
     packet_type: PacketType,
-    opened: Opened,
+    attempt: Attempt,
 ) -> Result<Step, ReceiveError>
-    ensures { result ≡ given_of next packet_type opened.update opened.outcome }
+    ensures { result ≡ given_of next packet_type attempt.update attempt.outcome }
 {
-    let incoming = match opened.outcome {
-        Ok(received) => Incoming::Packet(packet_type, received, opened.update),
+    let incoming = match attempt.outcome {
+        Ok(received) => Incoming::Packet(packet_type, received, attempt.update),
         Err(error) if error.code().is_some() => return Err(error),
         Err(error) => Incoming::Dropped(error),
     };

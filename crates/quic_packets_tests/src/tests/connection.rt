@@ -346,7 +346,7 @@ const UPDATES: [(bool, bool); 12] = [
 /// Sends a datagram from one end to the other.
 fn fly(alloc: Global, from: &mut End, to: &mut End, flight: &Flight) -> Result<(), Fail> {
     if flight.is_update {
-        from.connection.update_keys()?;
+        from.connection.initiate_update()?;
     }
     let mut datagram = Vec::new(alloc);
     for (packet_type, message) in flight.packets {
@@ -750,7 +750,7 @@ const ACKNOWLEDGED: [(u64, bool, Result<(), NumberError>); 3] = [
 fn updates_by_itself(rt: &impl Abort, alloc: Global, end: &mut Connection<2>) -> Result<(), Fail> {
     end.confirm_handshake();
     equal(rt, &sends_until_used_up(alloc, end)?, &(6, Some(2)));
-    let updated = end.update_keys();
+    let updated = end.initiate_update();
     equal(rt, &updated, &Err(KeyError::PhaseUnacknowledged));
     for (number, phase, outcome) in &ACKNOWLEDGED {
         let found = end.acknowledged(Level::OneRtt, *number, *phase);
@@ -777,7 +777,7 @@ fn no_keys(rt: HostRuntime) -> Result<(), Fail> {
     let acknowledged = end.acknowledged(Level::Initial, 0, false);
     equal(&rt, &acknowledged, &Err(NumberError::NoKeys));
     end.confirm_handshake();
-    let updated = end.update_keys();
+    let updated = end.initiate_update();
     equal(&rt, &updated, &Err(KeyError::HandshakeUnconfirmed));
     holds(&rt, end.sender(Level::OneRtt).is_none(), "no sender");
     Ok(())

@@ -4,8 +4,8 @@ use Rattle.quic_packets.specs.Datagram.{IsIn}
 use Rattle.quic_packets.proofs.DatagramLemmas as lemmas
 use Rattle.quic_packets.proofs.datagram.packet_at.Goals as goal
 
-pub with_fixed_bit-requires : goal.with_fixed_bit-requires
-with_fixed_bit-requires c =
+pub check_fixed_bit-requires : goal.check_fixed_bit-requires
+check_fixed_bit-requires c =
     let a = c.args in
     let it = c.in_ok-packet in
     let placed = lemmas.read_placed a.connection_id_len a.datagram.now a.start it.packet it.ensures in
@@ -16,7 +16,7 @@ returns c =
     let a = c.args in
     let it = c.in_ok-packet in
     let placed = lemmas.read_placed a.connection_id_len a.datagram.now a.start it.packet it.ensures in
-    let read = c.with_fixed_bit in
+    let read = c.check_fixed_bit in
     let passed = lemmas.passed a.fixed_bit a.start a.datagram.now it.packet read.result placed read.ensures in
     record {
       packet = lemmas.of_parts a.fixed_bit a.start a.datagram.now it.packet read.result placed read.ensures _ it.ensures;

@@ -39,7 +39,7 @@ pub loop-i-preserved : goal.loop-i-preserved
 loop-i-preserved c =
     let a = c.args in
     let l = c.loop-i in
-    let it = c.kept_below in
+    let it = c.byte_if_below in
     let inside : l.i < length l.number = omega arith in
     record {
       number = number_more a.number_len l.i it.result a.number.now l.number a.mask.now inside it.ensures.below it.ensures.above l.invariant.ahead

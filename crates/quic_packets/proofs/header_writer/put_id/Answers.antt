@@ -6,5 +6,5 @@ use Rattle.quic_packets.proofs.header_writer.put_id.Goals as goal
 pub returns-clause-written : goal.returns-clause-written
 returns-clause-written c =
     let a = c.args in
-    c.put.ensures.written ∙ ap (with_field c.put-at.result a.id.now) c.put-at.ensures.written
-    ∙ both a.at c.put-at.result (length a.id.now ∷ []) a.id.now a.buffer.now (omega arith) c.put-at.ensures.end
+    c.put_bytes.ensures.written ∙ ap (with_field c.put_bytes-at.result a.id.now) c.put_bytes-at.ensures.written
+    ∙ both a.at c.put_bytes-at.result (length a.id.now ∷ []) a.id.now a.buffer.now (omega arith) c.put_bytes-at.ensures.end

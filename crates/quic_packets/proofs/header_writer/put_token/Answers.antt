@@ -9,7 +9,7 @@ returns-in-Initial-clause-written c =
     let token = c.in-Initial.token.now in
     let f = c.fewest_bytes_log.result in
     let n = length token in
-    c.put.ensures.written ∙ ap (with_field c.put_integer-at.result token) c.put_integer-at.ensures.written
+    c.put_bytes.ensures.written ∙ ap (with_field c.put_integer-at.result token) c.put_integer-at.ensures.written
     ∙ both a.at c.put_integer-at.result (integer f n) token a.buffer.now (omega arith)
     (c.put_integer-at.ensures.end ∙ ap (λ k. c.args.at + k) (sym (length-high_first (2 ^ f) _)))
     ∙ ap (λ k. with_field c.args.at (integer k n ++ c.in-Initial.token.now) c.args.buffer.now) c.fewest_bytes_log.ensures

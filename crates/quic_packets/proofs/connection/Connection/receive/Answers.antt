@@ -7,14 +7,14 @@ pub returns-in-Ok : goal.returns-in-Ok
 returns-in-Ok g c =
     let a = c.args in
     let p = c.in-Ok.parts in
-    let o = c.open-opened in
+    let o = c.receive_parsed-attempt in
     let f = c.self.inside.failures in
     let below : f.count < f.limit = is_below c.is_at_limit.result f.count f.limit c.is_at_limit.ensures c.if-is_at_limit.false in
     let receiving : IsReceiving a.self.now = rw (← c.self.view_is) below in
     record {
       outcome = given_step a.self.now o.new.self a.id_len a.id.now a.datagram.now o.new.datagram a.at p receiving c.in-Ok.ensures.to_open
-          o.result.outcome c.step_of.result
-          (subst (λ u. c.step_of.result ≡ given_of p.end p.packet_type u o.result.outcome) o.ensures.update c.step_of.ensures)
+          o.result.outcome c.step_or_close.result
+          (subst (λ u. c.step_or_close.result ≡ given_of p.end p.packet_type u o.result.outcome) o.ensures.update c.step_or_close.ensures)
           o.ensures.some o.ensures.tried o.ensures.followed o.ensures.received o.ensures.kept;
     }
 

@@ -1,6 +1,6 @@
 use Rattle.std.proofs.Common.{◌≡◌, ℕ, ◌<◌, ◌≤◌, length}
 use Rattle.quic_packets.specs.Space.{ShareBit, bit_of}
-use Rattle.quic_packets.proofs.space.clear.Given as goal
+use Rattle.quic_packets.proofs.space.clear_range.Given as goal
 
 abbrev pub invariant-loop-number : goal.invariant-loop-number
 invariant-loop-number l = record {

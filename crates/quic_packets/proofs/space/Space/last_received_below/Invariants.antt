@@ -1,6 +1,6 @@
 use Rattle.std.proofs.Common.{ℕ, ◌<◌, ◌≤◌}
 use Rattle.quic_packets.specs.Space.{IsReceived}
-use Rattle.quic_packets.proofs.space.Space.last_below.Given as goal
+use Rattle.quic_packets.proofs.space.Space.last_received_below.Given as goal
 
 abbrev pub invariant-loop-end : goal.invariant-loop-end
 invariant-loop-end g l = record {

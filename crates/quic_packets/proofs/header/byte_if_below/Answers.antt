@@ -1,6 +1,6 @@
 use Rattle.std.proofs.Common.{◌≡◌, ap, bit_and, ◌∙◌, arith}
 use Rattle.std.proofs.lemmas.Nat.{and_mask}
-use Rattle.quic_packets.proofs.header.kept_below.Goals as goal
+use Rattle.quic_packets.proofs.header.byte_if_below.Goals as goal
 
 pub returns-clause-below : goal.returns-clause-below
 returns-clause-below c below =

@@ -1,6 +1,6 @@
 use Rattle.std.proofs.Common.{ℕ, ◌≤◌}
 use Rattle.quic_packets.specs.Space.{IsReceived}
-use Rattle.quic_packets.proofs.space.Space.first_of.Given as goal
+use Rattle.quic_packets.proofs.space.Space.first_of_range.Given as goal
 
 abbrev pub invariant-loop-first : goal.invariant-loop-first
 invariant-loop-first g l = record {

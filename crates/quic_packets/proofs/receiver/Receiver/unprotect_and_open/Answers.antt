@@ -1,8 +1,8 @@
 use Rattle.std.proofs.Common.{◌≡◌, ℕ, ◌+◌, ◌<◌, ◌≤◌, ◌⊎◌, List, get_or, length, ap, arith, subst}
 use Rattle.quic_packets.proofs.HeaderLemmas.{written_back}
-use Rattle.quic_packets.proofs.receiver.Receiver.open.Goals as goal
+use Rattle.quic_packets.proofs.receiver.Receiver.unprotect_and_open.Goals as goal
 
--- what is refused is as it was
+-- A packet that is refused is as it was.
 pub returns-in-Err-clause-kept : goal.returns-in-Err-clause-kept
 returns-in-Err-clause-kept c =
     let at = c.args.number_at in

@@ -2,10 +2,10 @@ use Rattle.std.proofs.Common.{rules, ◌≡◌, Ok, IsFalse, IsSome, sym}
 use Rattle.quic_packets.specs.Connection.{IsOwn, is_discarded, receiver_of}
 use Rattle.quic_packets.specs.Datagram.{packet_of}
 use Rattle.quic_packets.proofs.StepLemmas as lemmas
-use Rattle.quic_packets.proofs.connection.Connection.parts_to_open.Goals as goal
+use Rattle.quic_packets.proofs.connection.Connection.parse_or_skip.Goals as goal
 
-pub returns-then-not-takes-clause-unopened : goal.returns-then-not-takes-clause-unopened
-returns-then-not-takes-clause-unopened g c =
+pub returns-then-not-is_own_not_discarded-clause-unopened : goal.returns-then-not-is_own_not_discarded-clause-unopened
+returns-then-not-is_own_not_discarded-clause-unopened g c =
     let a = c.args in
     let it = c.in-Ok.ensures in
     let p = c.in-Ok.parts in
