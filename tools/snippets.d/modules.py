@@ -14,6 +14,8 @@ SENTENCE = re.compile(r".*?(?<!\b[A-Z])\.(?= |$)")
 VISIBLE = r"(?P<visible>pub(?:\([^)]*\))? )?"
 TYPE = re.compile(rf"{VISIBLE}(?:ghost )?(?P<kind>struct|enum|union|trait|type) (?P<name>\w+)")
 IMPL = re.compile(r"impl\b(?P<head>[^{]*)")
+# The head of an `impl`, which may have several lines.
+HEAD = re.compile(r"^impl\b[^{]*", re.MULTILINE)
 FUNCTION = re.compile(rf"(?P<indent> *){VISIBLE}(?:const |extern \"C\" )*fn (?P<name>\w+)")
 GENERICS = re.compile(r"<[^<>]*>")
 # A name or a path in a sentence, and a part of one that stands for any name.
@@ -66,7 +68,7 @@ def owners_of(text):
     """The types of a source in its order, by their names, and what it has without a type under the name ''."""
     owners, comment = {}, []
     owner = trait = ""
-    for line in text.splitlines():
+    for line in HEAD.sub(lambda head: " ".join(head[0].split()), text).splitlines():
         defined, impl, function = TYPE.match(line), IMPL.match(line), FUNCTION.match(line)
         if defined:
             owner, trait = defined["name"], ""
