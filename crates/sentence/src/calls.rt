@@ -1,4 +1,5 @@
-//! The sentence about lists of calls of keys that are bound to nonce sequences: of keys that are made here, and of keys that exist.
+//! The sentence about lists of calls of keys that are bound to nonce sequences: of keys that a function makes, and of keys that
+//! its caller has.
 
 ghost use Rattle.std.specs.Prelude.{◌≡◌, ◌↔◌, length, IsOk, IfOk, OnErr};
 ghost use Rattle.aead_ciphers.specs.Algorithm.{key_len};

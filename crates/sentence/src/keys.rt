@@ -1,5 +1,5 @@
-//! The keys of `aead_ciphers` have the traits of `library`, over any expanded AES-GCM key and any nonce sequence. Each call is
-//! the call of its name, and an impl writes no clause of its own, so what is proved of it is what the trait says.
+//! The keys of `aead_ciphers` have the traits of `library`, over any expanded AES-GCM key and any nonce sequence. Each function
+//! of an impl makes the call of its name. An impl has no clause of its own, so what is proved of a call is what the trait says.
 
 mod less_safe_key;
 mod opening_key;

@@ -1,8 +1,9 @@
-//! What the sentence needs of a library: for each call of a key the clauses from which the sentence follows, and no others.
+//! What the sentence needs of a library: traits of its keys, which have for each call the clauses from which the sentence
+//! follows, and no others.
 //!
-//! They are clauses of the calls of these names in `aead_ciphers`, or fields of such a clause. The traits of nonce sequences and
-//! of buffers that grow are those of `aead_ciphers::aead`, since a caller brings both, and so are the values that calls take and
-//! return.
+//! Each is a clause of the call of this name in `aead_ciphers`, or a field of such a clause. The traits of nonce sequences and of
+//! buffers that grow are those of `aead_ciphers::aead`, since a caller brings both. The values that calls take and return are
+//! also those of `aead_ciphers`.
 
 ghost use Rattle.std.specs.Prelude.{◌≡◌, ◌↔◌, ◌-◌, ⊤, length, drop, take, IsOk, IfOk, OnOk, OnErr, is_ok};
 ghost use Rattle.aead_ciphers_base.specs.Aes.{aes};

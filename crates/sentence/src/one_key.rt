@@ -37,7 +37,7 @@ pub fn seal_in_place_separate_tag<U: UnboundKey, K: LessSafeKey<U>>(
     key.seal_in_place_separate_tag(nonce, aad, in_out)
 }
 
-/// Seals in place, and appends the tag. Also fails if there is no room for the tag.
+/// Seals in place, and appends the tag. Fails if a length exceeds its limit, or if there is no room for the tag.
 pub fn seal_in_place_append_tag<U: UnboundKey, K: LessSafeKey<U>, B: InOut>(
     key: &K,
     nonce: Nonce,
@@ -70,7 +70,8 @@ pub fn open_in_place_separate_tag<'a, U: UnboundKey, K: LessSafeKey<U>>(
     key.open_in_place_separate_tag(nonce, aad, tag, in_out, start..)
 }
 
-/// Does the same, and returns the length of the plaintext.
+/// Does the same as `open_in_place_separate_tag`, but lends nothing, and returns the length of the plaintext at the front of the
+/// buffer.
 pub fn open_in_place_separate_tag_to_front<U: UnboundKey, K: LessSafeKey<U>>(
     key: &K,
     nonce: Nonce,
@@ -102,7 +103,7 @@ pub fn open_within<'a, U: UnboundKey, K: LessSafeKey<U>>(
     key.open_within(nonce, aad, in_out, start..)
 }
 
-/// Does the same, and returns the length of the plaintext.
+/// Does the same as `open_within`, but lends nothing, and returns the length of the plaintext at the front of the buffer.
 pub fn open_within_to_front<U: UnboundKey, K: LessSafeKey<U>>(
     key: &K,
     nonce: Nonce,
@@ -132,7 +133,7 @@ pub fn open_in_place<'a, U: UnboundKey, K: LessSafeKey<U>>(
     key.open_in_place(nonce, aad, in_out)
 }
 
-/// Does the same, and returns the length of the plaintext.
+/// Does the same as `open_in_place`, but lends nothing, and returns the length of the plaintext at the front of the buffer.
 pub fn open_in_place_to_front<U: UnboundKey, K: LessSafeKey<U>>(
     key: &K,
     nonce: Nonce,

@@ -1,4 +1,5 @@
-//! The sentence for the keys of `aead_ciphers`.
+//! The sentence about lists of calls for the keys of `aead_ciphers`, whose nonces are counted, and how such keys are made, bound
+//! and cloned.
 
 ghost use Rattle.std.specs.Prelude.{◌≡◌, ◌↔◌, length, IsOk, IfOk, OnErr};
 ghost use Rattle.aead_ciphers.specs.Algorithm.{key_len};

@@ -1,5 +1,5 @@
-//! The sentence for the keys of `aead_ciphers_wide`: the functions of `plain`, over these types. They are written again, since a
-//! function over any expanded key doesn't show which function the name of a call finds at these types.
+//! The sentence about lists of calls for the keys of `aead_ciphers_wide`: the functions of `plain`, over these types. They are
+//! written again, since a function over any expanded key doesn't show which function the name of a call finds at these types.
 
 ghost use Rattle.std.specs.Prelude.{◌≡◌, ◌↔◌, length, IsOk, IfOk, OnErr};
 ghost use Rattle.aead_ciphers.specs.Algorithm.{key_len};

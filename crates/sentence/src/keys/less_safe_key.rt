@@ -1,4 +1,4 @@
-//! Keys whose calls take the nonce.
+//! `LessSafeKey` of `aead_ciphers`, whose calls take the nonce, has the trait `library::LessSafeKey`.
 
 use crate::library;
 use aead_ciphers::aead::generic::LessSafeKey;

@@ -1,4 +1,4 @@
-//! Keys that open under the nonces of a sequence.
+//! `OpeningKey` of `aead_ciphers`, which opens under the nonces of a sequence, has the trait `library::OpeningKey`.
 
 use crate::library;
 use aead_ciphers::aead::generic::OpeningKey;

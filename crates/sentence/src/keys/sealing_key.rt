@@ -1,4 +1,4 @@
-//! Keys that seal under the nonces of a sequence.
+//! `SealingKey` of `aead_ciphers`, which seals under the nonces of a sequence, has the trait `library::SealingKey`.
 
 use crate::library;
 use aead_ciphers::aead::generic::SealingKey;

@@ -1,4 +1,5 @@
-//! Lists of calls of a sealing key and an opening key, which may be over different expanded keys.
+//! `aead_ciphers::session`, which runs lists of calls of a sealing key and an opening key, has the trait `library::Session`. The
+//! two keys may be over different expanded keys.
 
 use crate::library;
 use aead_ciphers::aead::generic::{OpeningKey, SealingKey};

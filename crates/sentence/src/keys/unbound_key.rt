@@ -1,4 +1,4 @@
-//! Keys without a role.
+//! `UnboundKey` of `aead_ciphers`, a key without a role, has the trait `library::UnboundKey`.
 
 use crate::library;
 use aead_ciphers::aead::{Algorithm, UnboundKey, Unspecified};
