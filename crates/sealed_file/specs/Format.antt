@@ -34,7 +34,8 @@ pub record Secret : Type 0 where
 abbrev pub secret_of : (version : ℕ) (key aad : List ℕ) → Secret
 secret_of version key aad = record { version = version; key = key; aad = aad }
 
--- version 2: the user's key, and the AAD that the caller binds the file to, which is not in it
+-- what a file of version 2 is sealed under: the user's key, and the AAD that the caller binds the file to, which the file
+-- doesn't hold
 abbrev pub secret : (key aad : List ℕ) → Secret
 secret key aad = secret_of 2 key aad
 

@@ -7,7 +7,7 @@ use crate::header::Context;
 use aead_ciphers_base::aes::AES_256_KEY_LEN;
 use xaes::Xaes256Gcm;
 
-/// The commitment in the headers of the files with this context, by iterations 3 and 4.
+/// Returns the commitment in the headers of the files with this context, by iterations 3 and 4 of the derivation.
 pub(crate) fn commitment(key: &Xaes256Gcm, context: &Context) -> [u8; AES_256_KEY_LEN]
     ensures { result ≡ commitment key.now context.now }
 {

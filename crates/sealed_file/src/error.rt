@@ -55,11 +55,11 @@ impl fmt::Display for FileError {
             FileError::Iterations(count) => {
                 write!(
                     f,
-                    "{count} iterations, which are not from 1 to {MAX_ITERATIONS}"
+                    "the header says {count} iterations, which must be from 1 to {MAX_ITERATIONS}"
                 )
             }
             FileError::EndsEarly => f.write_str("the sealed file ends early"),
-            FileError::TrailingBytes => f.write_str("bytes after the last chunk"),
+            FileError::TrailingBytes => f.write_str("there are bytes after the last chunk"),
             FileError::Refused(number) => write!(f, "chunk {number} was changed or cut"),
             FileError::TooLong => f.write_str("the file is too long: it has 2^32 chunks or more"),
             FileError::OutOfMemory => f.write_str("out of memory"),

@@ -156,7 +156,7 @@ fn header_with(
 }
 
 /// Returns the header of a file that begins with these bytes, or the part of it that they hold.
-pub(crate) fn read_header(file: &[u8]) -> &[u8]
+pub(crate) fn header_of(file: &[u8]) -> &[u8]
     ensures { result.now ≡ header_of file.now }
 {
     if file.len() < HEADER_LEN {
@@ -200,7 +200,7 @@ pub fn check_header(file: &[u8]) -> Result<(), FileError>
     ensures refused { (key aad : List ℕ) → IfErr result (λ error.
         HeaderRefuses (secret key aad) (header_of file.now) error) }
 {
-    check_front(VERSION, read_header(file))?;
+    check_front(VERSION, header_of(file))?;
     if file.len() < HEADER_LEN {
         return Err(FileError::EndsEarly);
     }
@@ -242,5 +242,5 @@ pub(crate) fn cipher_of(
     ensures cipher { IfOk result (λ cipher. cipher ≡ chunk_key (secret_of version key.now aad.now) (header_of file.now)) }
     ensures refused { IfErr result (λ error. HeaderRefuses (secret_of version key.now aad.now) (header_of file.now) error) }
 {
-    cipher_in(version, key, aad, read_header(file))
+    cipher_in(version, key, aad, header_of(file))
 }

@@ -56,8 +56,8 @@ impl FileKey {
         self.xaes().derived_key(context)
     }
 
-    /// Returns whether the file that begins with these bytes has the header that is defined for this key: its commitment is that of
-    /// the key. The chunks are not opened.
+    /// Returns whether the file that begins with these bytes has the header that is defined for this key: its commitment is that
+    /// of the key. The chunks are not opened.
     pub fn is_of(&self, header: &[u8]) -> bool
         ensures { IsTrue result ↔ HasHeader (secret self.now []) (header_of header.now) }
     {

@@ -67,8 +67,8 @@ pub fn another_file_by_passphrase(
         (i : ℕ) × IsForged k file.now (core_of other.now) i }
 {}
 
-/// `two_keys` in version 3: a file that opens under two passphrases, whatever it is bound to, holds random bytes and iterations for
-/// which both have keys with the same commitment.
+/// `two_keys` in version 3: a file that opens under two passphrases, whatever it is bound to, holds random bytes and iterations
+/// for which both have keys with the same commitment.
 pub fn two_passphrases(
     passphrase: &[u8],
     aad: &[u8],

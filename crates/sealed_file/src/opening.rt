@@ -56,8 +56,8 @@ pub fn open<R: Read, W: Write>(
     open_with_aad(alloc, key, &[], input, output)
 }
 
-/// Like `open`, for a file that is bound to `aad`, at most `MAX_AAD_LEN` bytes. With other bytes than it was sealed with, the first
-/// chunk is refused.
+/// Like `open`, for a file that is bound to `aad`, at most `MAX_AAD_LEN` bytes. With other bytes than it was sealed with, the
+/// first chunk is refused.
 pub fn open_with_aad<R: Read, W: Write>(
     alloc: Global,
     key: &FileKey,

@@ -9,7 +9,7 @@ ghost use Rattle.sealed_file.specs.Refusals.{IsVersion, SealRefuses};
 ghost use Rattle.sealed_file.specs.Streams.{AppendsBeginning, AppendsRightBy};
 
 use crate::error::FileError;
-use crate::header::{ChunkCipher, FRONT_LEN, HEADER_LEN, RANDOM_LEN, check_front, read_header};
+use crate::header::{ChunkCipher, FRONT_LEN, HEADER_LEN, RANDOM_LEN, check_front, header_of};
 use crate::key::FileKey;
 use crate::opening::open_version;
 use crate::random::FileRandom;
@@ -97,8 +97,9 @@ pub fn seal_with_passphrase<R: Read, W: Write>(
 
 /// Returns the iterations in the header of a file of version 3 that begins with these bytes. The commitment is not compared.
 ///
-/// Fails with `EndsEarly` if the bytes end within the magic or the version, and otherwise with the first that is so: `AnotherMagic`;
-/// `AnotherVersion`; `EndsEarly`, if they end within the header; and `Iterations`, if those are 0 or more than `MAX_ITERATIONS`.
+/// Fails with `EndsEarly` if the bytes end within the magic or the version, and otherwise with the first that is so:
+/// `AnotherMagic`; `AnotherVersion`; `EndsEarly`, if they end within the header; and `Iterations`, if those are 0 or more than
+/// `MAX_ITERATIONS`.
 pub fn iterations_in(file: &[u8]) -> Result<u32, FileError>
     ensures front { IsOk result → IsVersion 3 (header_of file.now) }
     ensures whole { IsOk result → 64 ≤ length file.now }
@@ -106,7 +107,7 @@ pub fn iterations_in(file: &[u8]) -> Result<u32, FileError>
     ensures allowed { IfOk result (λ iterations. AreAllowed iterations) }
     ensures refused { IfErr result (λ error. FrontRefuses file.now error) }
 {
-    check_front(PASSPHRASE_VERSION, read_header(file))?;
+    check_front(PASSPHRASE_VERSION, header_of(file))?;
     if file.len() < PASSPHRASE_HEADER_LEN {
         return Err(FileError::EndsEarly);
     }
@@ -127,7 +128,8 @@ struct Unlocked {
     aad: Vec<u8>,
 }
 
-/// Derives what a file is sealed under, if it is sealed under this passphrase. It begins with these bytes, and has these iterations.
+/// Derives what a file is sealed under, if it is sealed under this passphrase. It begins with these bytes, and has these
+/// iterations.
 fn derive_key_and_aad(
     alloc: Global,
     passphrase: &[u8],
@@ -151,9 +153,9 @@ fn derive_key_and_aad(
 
 /// Opens the file in `input` that is sealed under a passphrase, and writes the file to `output`, as `open_with_aad` does.
 ///
-/// Fails with the errors of `open`: `AnotherVersion` for a file that is sealed under a key, and `WrongKey` for another passphrase.
-/// Fails with `Iterations` if a whole header of version 3 has 0 iterations or more than `MAX_ITERATIONS`, before it derives the key
-/// and writes anything.
+/// Fails with the errors of `open`: `AnotherVersion` for a file that is sealed under a key, and `WrongKey` for another
+/// passphrase. Fails with `Iterations` if a whole header of version 3 has 0 iterations or more than `MAX_ITERATIONS`, before it
+/// derives the key and writes anything.
 pub fn open_with_passphrase<R: Read, W: Write>(
     alloc: Global,
     passphrase: &[u8],
@@ -176,7 +178,7 @@ pub fn open_with_passphrase<R: Read, W: Write>(
     read_piece(input, PASSPHRASE_HEADER_LEN, &mut header)?;
     let iterations = iterations_in(&header)?;
     let unlocked = derive_key_and_aad(alloc, passphrase, aad, &header, iterations)?;
-    let mut core = read_header(&header).chain(input);
+    let mut core = header_of(&header).chain(input);
     open_version(
         alloc,
         PASSPHRASE_VERSION,

@@ -11,7 +11,7 @@ use crate::error::FileError;
 use crate::header::{VERSION, cipher_of};
 use crate::in_memory::append_opened;
 use crate::key::FileKey;
-use crate::reader::last_of;
+use crate::reader::last_chunk_of_len;
 use aead_ciphers::aead::MAX_TAG_LEN;
 
 /// Like `open_chunk_at`, but on an error bytes may follow those that `out` held.
@@ -108,7 +108,7 @@ pub fn plaintext_len(sealed_len: u64) -> Option<u64>
     ensures opened { (s : Secret) (file : List ℕ) → length file ≡ sealed_len
         → IsSealed s file → result ≡ Some (length (opened_file s file)) }
 {
-    match last_of(sealed_len) {
+    match last_chunk_of_len(sealed_len) {
         Ok((last, last_len)) => Some(u64::from(last) * CHUNK_LEN as u64 + last_len as u64),
         Err(_) => None,
     }

@@ -69,8 +69,8 @@ impl<R: ReadAt> Model for SealedReader<R> {
         r.layout.start r.layout.last r.layout.last_len r.held r.buffer.items };
 }
 
-/// The number of the last chunk of a sealed file of this length, and the length of its message.
-pub(crate) fn last_of(sealed_len: u64) -> Result<(u32, usize), FileError>
+/// Returns the number of the last chunk of a sealed file of this length, and the length of its message.
+pub(crate) fn last_chunk_of_len(sealed_len: u64) -> Result<(u32, usize), FileError>
     ensures accepted { IsOk result ↔ IsSealedLen sealed_len }
     ensures last { IfOk result (λ last. last.0 ≡ last_piece sealed_chunk_len (sealed_len - header_len)) }
     ensures len { IfOk result (λ last. last.1 ≡ sealed_len - header_len - sealed_chunk_len * last.0 - tag_len) }
@@ -162,7 +162,7 @@ fn layout_of<R: ReadAt>(input: &mut R, start: u64) -> Result<Layout, FileError>
     ensures same { R.bytes input.new ≡ R.bytes input.old }
 {
     let sealed_len = sealed_len_of(input, start)?;
-    let (last, last_len) = last_of(sealed_len)?;
+    let (last, last_len) = last_chunk_of_len(sealed_len)?;
     Ok(Layout {
         start,
         last,

@@ -65,14 +65,18 @@ const CHANGED: [(usize, u8, &str); 11] = [
     (
         60,
         255,
-        "4278190083 iterations, which are not from 1 to 10000000",
+        "the header says 4278190083 iterations, which must be from 1 to 10000000",
     ),
     (
         61,
         255,
-        "16711683 iterations, which are not from 1 to 10000000",
+        "the header says 16711683 iterations, which must be from 1 to 10000000",
     ),
-    (63, 0, "0 iterations, which are not from 1 to 10000000"),
+    (
+        63,
+        0,
+        "the header says 0 iterations, which must be from 1 to 10000000",
+    ),
     (63, 4, ANOTHER_KEY),
     (84, 0, FIRST_REFUSED),
 ];

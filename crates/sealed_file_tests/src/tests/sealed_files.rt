@@ -61,7 +61,7 @@ const SECOND_REFUSED: &str = "chunk 1 was changed or cut";
 
 pub(crate) const ENDS_EARLY: &str = "the sealed file ends early";
 
-const TRAILING_BYTES: &str = "bytes after the last chunk";
+const TRAILING_BYTES: &str = "there are bytes after the last chunk";
 
 const VERSION_ONE: &str = "a sealed file of version 1, which is neither 2 nor 3";
 
@@ -442,8 +442,8 @@ fn derived_from_a_key(rt: HostRuntime) -> Result<(), Fail> {
     Ok(())
 }
 
-/// A header without a commitment, of version 1, and one chunk whose tag is right under `KEY` and under `OTHER_KEY`: its ciphertext
-/// block solves the equation that both tags are one.
+/// A header without a commitment, of version 1, and one chunk whose tag is right under `KEY` and under `OTHER_KEY`: its
+/// ciphertext block solves the equation that both tags are one.
 const TWO_KEYS: &[u8] = b"SEALFILE\x01\x01\x02\x03\x04\x05\x06\x07\
     \x80\x46\x48\xf4\xf5\x80\x00\xb4\xa8\xa2\x8d\xb0\x36\xef\xb4\x1e\
     \xf5\x66\x69\xb3\x9b\xaa\x40\xb9\xa2\x2d\x34\x6f\xab\xc7\x56\x7d";

@@ -28,7 +28,7 @@ returns-in_err-unlocked-clause-nothing_past g c = stop _ _ (λ file. stop_at_sta
 pub returns-clause-accepted : goal.returns-clause-accepted
 returns-clause-accepted g c = ok_then c.open_version.result _ _ c.in_ok-read_piece.ensures.bytes (λ file read.
     accepted_by _ _ _ _ _ _ refl read
-    (core_is c.args.passphrase.now c.args.aad.now _ _ _ _ refl read (c.read_header.ensures ∙ ap header_of c.deref-3.ensures.value) c.chain-core.ensures.bytes)
+    (core_is c.args.passphrase.now c.args.aad.now _ _ _ _ refl read (c.header_of.ensures ∙ ap header_of c.deref-3.ensures.value) c.chain-core.ensures.bytes)
     (ap (secret_of 3 c.in_ok-unlocked.unlocked.key) c.deref-4.ensures.value ∙ c.in_ok-unlocked.ensures.made
     ∙ ap (unlocked c.args.passphrase.now c.args.aad.now) c.deref-2.ensures.value) c.open_version.result
     (subst (λ l. 64 ≤ length l) c.deref.ensures.value (c.in_ok-iterations.ensures.whole refl))
@@ -38,7 +38,7 @@ returns-clause-accepted g c = ok_then c.open_version.result _ _ c.in_ok-read_pie
 pub returns-clause-opened : goal.returns-clause-opened
 returns-clause-opened g c = ok_then c.open_version.result _ _ c.in_ok-read_piece.ensures.bytes (λ file read.
     gives _ _ _ _ _ _ refl read
-    (core_is c.args.passphrase.now c.args.aad.now _ _ _ _ refl read (c.read_header.ensures ∙ ap header_of c.deref-3.ensures.value) c.chain-core.ensures.bytes)
+    (core_is c.args.passphrase.now c.args.aad.now _ _ _ _ refl read (c.header_of.ensures ∙ ap header_of c.deref-3.ensures.value) c.chain-core.ensures.bytes)
     (ap (secret_of 3 c.in_ok-unlocked.unlocked.key) c.deref-4.ensures.value ∙ c.in_ok-unlocked.ensures.made
     ∙ ap (unlocked c.args.passphrase.now c.args.aad.now) c.deref-2.ensures.value) c.open_version.result
     _ _ c.open_version.ensures.opened)
@@ -46,7 +46,7 @@ returns-clause-opened g c = ok_then c.open_version.result _ _ c.in_ok-read_piece
 pub returns-clause-refused : goal.returns-clause-refused
 returns-clause-refused g c = error_then c.open_version.result _ _ c.in_ok-read_piece.ensures.bytes (λ file read.
     refused_by _ _ _ _ _ _ refl read
-    (core_is c.args.passphrase.now c.args.aad.now _ _ _ _ refl read (c.read_header.ensures ∙ ap header_of c.deref-3.ensures.value) c.chain-core.ensures.bytes)
+    (core_is c.args.passphrase.now c.args.aad.now _ _ _ _ refl read (c.header_of.ensures ∙ ap header_of c.deref-3.ensures.value) c.chain-core.ensures.bytes)
     (ap (secret_of 3 c.in_ok-unlocked.unlocked.key) c.deref-4.ensures.value ∙ c.in_ok-unlocked.ensures.made
     ∙ ap (unlocked c.args.passphrase.now c.args.aad.now) c.deref-2.ensures.value) c.open_version.result
     (subst (λ l. 64 ≤ length l) c.deref.ensures.value (c.in_ok-iterations.ensures.whole refl))
@@ -56,7 +56,7 @@ returns-clause-refused g c = error_then c.open_version.result _ _ c.in_ok-read_p
 pub returns-clause-nothing_past : goal.returns-clause-nothing_past
 returns-clause-nothing_past g c = err_then c.open_version.result _ _ c.in_ok-read_piece.ensures.bytes (λ file read.
     stopped_by _ _ _ _ _ _ refl read
-    (core_is c.args.passphrase.now c.args.aad.now _ _ _ _ refl read (c.read_header.ensures ∙ ap header_of c.deref-3.ensures.value) c.chain-core.ensures.bytes)
+    (core_is c.args.passphrase.now c.args.aad.now _ _ _ _ refl read (c.header_of.ensures ∙ ap header_of c.deref-3.ensures.value) c.chain-core.ensures.bytes)
     (ap (secret_of 3 c.in_ok-unlocked.unlocked.key) c.deref-4.ensures.value ∙ c.in_ok-unlocked.ensures.made
     ∙ ap (unlocked c.args.passphrase.now c.args.aad.now) c.deref-2.ensures.value) c.open_version.result _ _
     (subst (λ l. 64 ≤ length l) c.deref.ensures.value (c.in_ok-iterations.ensures.whole refl))

@@ -17,11 +17,11 @@ returns-clause-accepted g c =
 pub returns-clause-message : goal.returns-clause-message
 returns-clause-message g c =
     let short = c.message_len-len.ensures.short in
-    let size : length (take (c.message_len-len.result + tag_len) c.args.buffer.now) ≡ c.message_len-len.result + tag_len =
-    omega (arith, length-take (c.message_len-len.result + tag_len) c.args.buffer.now, c.requires.room, short) in
-    message_of c.open_from.result _ _ _ (length (take (c.message_len-len.result + tag_len) c.args.buffer.now)) _ c.open_from.new.sealed _ _ (returns-clause-accepted g c)
+    let n = c.message_len-len.result + tag_len in
+    let size : length (take n c.args.buffer.now) ≡ n = omega (arith, length-take n c.args.buffer.now, c.requires.room, short) in
+    message_of c.open_from.result _ _ _ (length (take n c.args.buffer.now)) _ c.open_from.new.sealed _ _ (returns-clause-accepted g c)
     (of_chunk _ _ _ _ _ _ _ (λ b l. OnOk c.open_from.result
-    (take (length (take (c.message_len-len.result + tag_len) c.args.buffer.now) - tag_len) c.open_from.new.sealed ≡ opened_chunk c.args.cipher.now c.args.number b l))
+    (take (length (take n c.args.buffer.now) - tag_len) c.open_from.new.sealed ≡ opened_chunk c.args.cipher.now c.args.number b l))
     c.requires.ends c.requires.short c.requires.in_range
     (omega (arith, size, c.message_len-len.ensures.value))
     (omega (arith, c.from.ensures)) c.open_from.ensures.opened)
