@@ -12,8 +12,8 @@ use crate::header::RANDOM_LEN;
 pub fn opens_again(key: &[u8], aad: &[u8], random: &[u8; RANDOM_LEN], file: &[u8])
     requires { last_piece chunk_len (length file.now) < 2 ^ 32 - 1 }
     ensures accepted { IsSealed (secret key.now aad.now) (sealed_file (fresh_key (secret key.now aad.now) random.now) file.now) }
-    ensures comes_back { opened_file (secret key.now aad.now) (sealed_file (fresh_key (secret key.now aad.now) random.now) file.now)
-        ≡ file.now }
+    ensures comes_back { let s = secret key.now aad.now in
+        opened_file s (sealed_file (fresh_key s random.now) file.now) ≡ file.now }
 {}
 
 /// Another file under the header of a sealed one is accepted only with a forged chunk: a chunk with the tag for its number and

@@ -156,7 +156,8 @@ fn layout_of<R: ReadAt>(input: &mut R, start: u64) -> Result<Layout, FileError>
     ensures start { IfOk result (λ layout. layout.start ≡ start) }
     ensures few { IfOk result (λ layout. layout.last < 2 ^ 32 - 1) }
     ensures short { IfOk result (λ layout. layout.last_len ≤ chunk_len) }
-    ensures fits { IfOk result (λ layout. start + header_len + sealed_chunk_len * layout.last + layout.last_len + tag_len < 2 ^ 64) }
+    ensures fits { IfOk result (λ layout.
+        start + header_len + sealed_chunk_len * layout.last + layout.last_len + tag_len < 2 ^ 64) }
     ensures refused { IfSome (file_from start (R.bytes input.old)) (λ file.
         IfErr result (λ error. LengthRefuses (length file) error)) }
     ensures same { R.bytes input.new ≡ R.bytes input.old }
@@ -193,7 +194,8 @@ fn open_slice(
 ) -> Result<(), FileError>
     requires { length sealed.old ≤ sealed_chunk_len }
     ensures accepted { IsOk result ↔ HasTag cipher.now number is_last sealed.old }
-    ensures opened { OnOk result (take (length sealed.old - tag_len) sealed.new ≡ opened_chunk cipher.now number is_last sealed.old) }
+    ensures opened { OnOk result (take (length sealed.old - tag_len) sealed.new
+        ≡ opened_chunk cipher.now number is_last sealed.old) }
     ensures refused { IfErr result (λ error. ChunkRefuses cipher.now number is_last sealed.old error) }
     ensures len { length sealed.new ≡ length sealed.old }
 {
