@@ -13,17 +13,19 @@ IsAesKeyLen n = (n ≡ 16) ⊎ (n ≡ 32)
 abbrev pub HasRounds : ExpandedKey → Type 0
 HasRounds key = (10 ≤ key.rounds) × (key.rounds ≤ 14)
 
--- a key that `deerlapse_key_init` filled, or one of zeros
+-- a key with the rounds of AES is expanded; this holds of a key from `deerlapse_key_init`, and of zeros, which have 0 rounds
 abbrev pub IsKeyOrNone : ExpandedKey → Type 0
 IsKeyOrNone key = HasRounds key → IsExpanded key
 
--- what a call that expands a key from these bytes returns and leaves: it accepts the lengths of a key, and else leaves zeros
+-- what a call returns that expands a key from these bytes, and the key that it leaves: it accepts the lengths of a key, and
+-- leaves zeros if it refuses
 pub record ExpandsKey (bytes : List ℕ) (result : Bool) (now : ExpandedKey) : Type 0 where
   pub accepted : IsTrue result ↔ IsAesKeyLen (length bytes)
   pub made : IsTrue result → IsExpanded now × (bytes_of now ≡ bytes)
   pub unused : IsTrue result → HasZerosAfter now
   pub refused : IsFalse result → now ≡ zero_key
 
--- a message that `deerlapse_key_begin` began, or one of zeros
+-- a message that has begun has lengths within the limits; this holds of a message from `deerlapse_key_begin`, and of zeros, which
+-- have not begun
 abbrev pub IsBegunOrNone : SealState → Type 0
 IsBegunOrNone message = 0 < message.begun → Fits message.aad_len message.len

@@ -1,4 +1,4 @@
--- The definitions that the contracts of the exports use, besides those of the library.
+-- The definitions that the contracts of the calls from C need, besides those of the libraries below.
 pub mod AesKey
 pub mod HeaderKey
 pub mod NumberedKey

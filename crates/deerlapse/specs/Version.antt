@@ -1,4 +1,4 @@
--- The number of a version.
+-- The number of a version of the library.
 use Rattle.std.specs.Prelude.{ℕ, ◌+◌, ◌*◌, ◌^◌}
 
 -- version 1.2.3 has the number 0x010203

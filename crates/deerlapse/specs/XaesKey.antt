@@ -7,6 +7,6 @@ use Rattle.xaes.specs.declared.expanded.ExpandedKey.{ExpandedKey}
 abbrev pub HasXaesRounds : ExpandedKey → Type 0
 HasXaesRounds key = key.rounds ≡ 14
 
--- a key that `deerlapse_xaes_init` filled, or one of zeros
+-- a key with the rounds of AES-256 is expanded; this holds of a key from `deerlapse_xaes_init`, and of zeros, which have 0 rounds
 abbrev pub IsXaesKeyOrNone : ExpandedKey → Type 0
 IsXaesKeyOrNone key = HasXaesRounds key → IsExpanded key

@@ -1,4 +1,4 @@
-//! AES-GCM (SP 800-38D) under the caller's key and nonce.
+//! Sealing and opening one message by AES-GCM (SP 800-38D), under key bytes that each call expands for itself.
 
 ghost use Rattle.std.specs.Prelude.{◌≡◌, ◌-◌, ◌↔◌, length, IsTrue, IsFalse};
 ghost use Rattle.aead_ciphers_base.specs.Aes.{aes};
@@ -11,7 +11,7 @@ use aead_ciphers::aes_gcm::GcmKey;
 use aead_ciphers_wide::aes::Width;
 use aead_ciphers_wide::aes_gcm::ExpandedKey;
 
-/// Encrypts `in_out` in place, and writes its tag of 16 bytes (SP 800-38D algorithm 4).
+/// Encrypts the message in `in_out` in place, and writes its tag of 16 bytes (SP 800-38D algorithm 4).
 ///
 /// Returns false if `key` does not have 16 or 32 bytes, if the message is longer than 2^36 - 32 bytes, or if the AAD has 2^61
 /// bytes or more.
@@ -32,7 +32,7 @@ pub extern "C" fn deerlapse_seal(
     seal(key, nonce, aad, in_out, tag, width())
 }
 
-/// Encrypts in place, with batches on planes of this width.
+/// Does the same as `deerlapse_seal`, with planes of this width.
 pub(crate) fn seal(
     key: &[u8],
     nonce: &[u8; NONCE_LEN],
@@ -51,13 +51,13 @@ pub(crate) fn seal(
     expand(&mut expanded, key, width) && deerlapse_key_seal(&expanded, nonce, aad, in_out, tag)
 }
 
-/// Opens the ciphertext and tag in `in_out` from `start` on, and writes the length of the plaintext in bytes (SP 800-38D
+/// Opens in place the ciphertext that `in_out` holds from `start` on, and writes the length of the plaintext in bytes (SP 800-38D
 /// algorithm 5).
 ///
 /// The tag is the last 16 bytes of `in_out`. On success the plaintext is at the front of `in_out`, and the bytes after it are
 /// unchanged.
 ///
-/// Returns false if `key` does not have 16 or 32 bytes, if there are fewer than 16 bytes after `start`, if a length is not one
+/// Returns false if `key` does not have 16 or 32 bytes, if there are fewer than 16 bytes from `start` on, if a length is not one
 /// that `deerlapse_seal` takes, or if the tag is wrong.
 #[unsafe(no_mangle)]
 pub extern "C" fn deerlapse_open(
@@ -78,7 +78,7 @@ pub extern "C" fn deerlapse_open(
     open(key, nonce, aad, in_out, start, plaintext_len, width())
 }
 
-/// Opens, with batches on planes of this width.
+/// Does the same as `deerlapse_open`, with planes of this width.
 pub(crate) fn open(
     key: &[u8],
     nonce: &[u8; NONCE_LEN],

@@ -1,4 +1,4 @@
-//! The ChaCha20 stream (RFC 8439).
+//! Encryption and decryption with the ChaCha20 stream (RFC 8439), from any block on and without a tag.
 
 ghost use Rattle.std.specs.Prelude.{◌≡◌, ◌+◌, ◌^◌, ◌≤◌, ◌↔◌, length, IsTrue, IsFalse};
 ghost use Rattle.std.specs.Int.{div_ceil};
@@ -9,7 +9,7 @@ use aead_ciphers_base::chacha::{BLOCK_LEN, Counter, KEY_LEN, Key, Overlapping};
 
 /// XORs `in_out` with the key stream from block `counter` on, which both encrypts and decrypts (RFC 8439 section 2.4).
 ///
-/// Returns false if this would go past the last block, whose counter is 2^32 - 1.
+/// Returns false if `in_out` would need a block after the last one, whose counter is 2^32 - 1.
 #[unsafe(no_mangle)]
 pub extern "C" fn deerlapse_chacha20(
     key: &[u8; KEY_LEN],

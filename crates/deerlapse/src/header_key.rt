@@ -1,4 +1,5 @@
-//! A key that masks the headers of QUIC's packets with AES (RFC 9001 section 5.4.3), which is expanded once.
+//! A `deerlapse_quic_header_key`: an AES key that is expanded once, and computes the masks of the headers of QUIC's packets (RFC
+//! 9001 section 5.4.3).
 
 ghost use Rattle.std.specs.Prelude.{◌≡◌, ◌↔◌, IsTrue, IsFalse};
 ghost use Rattle.aead_ciphers_base.specs.KeyBytes.{key_bytes};
@@ -13,28 +14,28 @@ use aead_ciphers_wide::aes::{BlockKeyRef, RoundKeys, expand};
 use key_derivation::quic::{QuicSecret, Version};
 use std::mem::size_of;
 
-/// An expanded AES key for single blocks. It is in the caller's memory.
+/// An expanded AES key for single blocks. The struct is in the caller's memory.
 #[repr(C)]
 #[derive(Drop)]
 pub struct HeaderKey {
-    /// The number of rounds: 10 for AES-128, 14 for AES-256. As wide as a word of the header, so that there is no padding.
+    /// The number of rounds: 10 for AES-128, 14 for AES-256. It has 8 bytes, so that the struct has no padding.
     pub rounds: u64,
     /// The round keys (FIPS 197 section 5.2).
     pub round_keys: RoundKeys,
 }
 
-// The `words` of the type in the header have as many bytes.
+// This is also the size of `deerlapse_quic_header_key` in the header.
 const _: () = prove!(size_of::<HeaderKey>() == 248);
 
 impl HeaderKey {
-    /// Overwrites this value with the expansion of a key. No byte of a key that was there before stays.
+    /// Overwrites this value with the expansion of a key. No byte stays of a key that it held before.
     fn expand(&mut self, bytes: KeyBytes<'_>)
         ensures { IsHeaderKeyOf self.new (key_bytes bytes.entry) }
     {
         self.rounds = expand(&mut self.round_keys, bytes) as u64;
     }
 
-    /// Whether the key has as many rounds as an AES key. A key of zeros has none.
+    /// Returns whether the key has 10 to 14 rounds, as every AES key has. A key of zeros has 0 rounds.
     fn has_rounds(&self) -> bool
         ensures { IsTrue result ↔ HasHeaderRounds self.now }
     {
@@ -42,7 +43,7 @@ impl HeaderKey {
     }
 }
 
-/// Expands a header protection key. Its previous bytes are not read.
+/// Expands a header protection key. The previous bytes of `key` are not read.
 ///
 /// Returns false if the key does not have 16 or 32 bytes.
 #[unsafe(no_mangle)]
@@ -56,7 +57,8 @@ pub extern "C" fn deerlapse_quic_header_key_init(key: &mut HeaderKey, bytes: &[u
     true
 }
 
-/// Expands the header protection key of a secret, in the version with this number. Its previous bytes are not read.
+/// Expands the header protection key of a secret, in the version with this number (RFC 9001 section 5.1, RFC 9369 section 3.3.2).
+/// The previous bytes of `key` are not read.
 ///
 /// Returns false if the version is neither 1 nor 2, or if the secret does not have 32 or 48 bytes.
 #[unsafe(no_mangle)]

@@ -1,4 +1,5 @@
-//! HMAC (RFC 2104), HKDF (RFC 5869) and HKDF-Expand-Label (RFC 8446 section 7.1), with SHA-256 or SHA-384.
+//! HMAC (RFC 2104), HKDF (RFC 5869) and HKDF-Expand-Label (RFC 8446 section 7.1), with SHA-256 or SHA-384, which the length of an
+//! argument selects.
 
 ghost use Rattle.std.specs.Prelude.{◌≡◌, ◌≤◌, ◌*◌, ◌↔◌, length, IsTrue, IsFalse};
 ghost use Rattle.key_derivation.specs.Hkdf.{IsLabel, hkdf_expand, hkdf_expand_label, hkdf_extract};
@@ -8,9 +9,10 @@ ghost use Rattle.deerlapse.specs.TrafficKey.{IsDigestLen, hash_of};
 use crate::traffic_key::{SHA_256_LEN, SHA_384_LEN, secret_of};
 use key_derivation::hmac::{hmac_sha_256, hmac_sha_384};
 
-/// Writes the code of a message under a key of any length (RFC 2104).
+/// Writes the authentication code of a message under a key of any length (RFC 2104): 32 bytes with SHA-256, or 48 bytes with
+/// SHA-384.
 ///
-/// Returns false if `code` does not have 32 bytes, for SHA-256, or 48, for SHA-384.
+/// Returns false if `code` has another length.
 #[unsafe(no_mangle)]
 pub extern "C" fn deerlapse_hmac(key: &[u8], message: &[u8], code: &mut [u8]) -> bool
     ensures accepted { IsTrue result ↔ IsDigestLen (length code.old) }
@@ -25,9 +27,10 @@ pub extern "C" fn deerlapse_hmac(key: &[u8], message: &[u8], code: &mut [u8]) ->
     true
 }
 
-/// Writes the pseudorandom key of a salt and input keying material (RFC 5869 section 2.2).
+/// Writes the pseudorandom key of a salt and input keying material (RFC 5869 section 2.2): 32 bytes with SHA-256, or 48 bytes
+/// with SHA-384.
 ///
-/// Returns false if `prk` does not have 32 bytes, for SHA-256, or 48, for SHA-384.
+/// Returns false if `prk` has another length.
 #[unsafe(no_mangle)]
 pub extern "C" fn deerlapse_hkdf_extract(salt: &[u8], ikm: &[u8], prk: &mut [u8]) -> bool
     ensures accepted { IsTrue result ↔ IsDigestLen (length prk.old) }
@@ -38,9 +41,10 @@ pub extern "C" fn deerlapse_hkdf_extract(salt: &[u8], ikm: &[u8], prk: &mut [u8]
     deerlapse_hmac(salt, ikm, prk)
 }
 
-/// Fills `out` with output keying material (RFC 5869 section 2.3).
+/// Fills `out` with output keying material (RFC 5869 section 2.3), under a pseudorandom key of 32 bytes for SHA-256, or of 48
+/// bytes for SHA-384.
 ///
-/// Returns false if `prk` does not have 32 bytes, for SHA-256, or 48, for SHA-384, or if `out` has more than 255 times as many.
+/// Returns false if `prk` has another length, or if `out` is more than 255 times as long as `prk`.
 #[unsafe(no_mangle)]
 pub extern "C" fn deerlapse_hkdf_expand(prk: &[u8], info: &[u8], out: &mut [u8]) -> bool
     ensures accepted { IsTrue result
@@ -55,10 +59,11 @@ pub extern "C" fn deerlapse_hkdf_expand(prk: &[u8], info: &[u8], out: &mut [u8])
     }
 }
 
-/// Fills `out` from a secret by a label, which is without its prefix `tls13 ` (RFC 8446 section 7.1).
+/// Fills `out` by HKDF-Expand-Label (RFC 8446 section 7.1), from a secret of 32 bytes for SHA-256, or of 48 bytes for SHA-384.
+/// The call puts the prefix `tls13 ` before the label.
 ///
-/// Returns false if `secret` does not have 32 bytes, for SHA-256, or 48, for SHA-384; if `label` is empty or has more than 249
-/// bytes; if `context` has more than 255; or if `out` has more than 255 times as many as `secret`.
+/// Returns false if `secret` has another length, if `label` is empty or has more than 249 bytes, if `context` has more than 255
+/// bytes, or if `out` is more than 255 times as long as `secret`.
 #[unsafe(no_mangle)]
 pub extern "C" fn deerlapse_hkdf_expand_label(
     secret: &[u8],

@@ -1,4 +1,5 @@
-//! An AES-GCM key (SP 800-38D) that is expanded once, for many messages and many threads.
+//! A `deerlapse_key`: an AES-GCM key (SP 800-38D) that is expanded once, and then seals and opens messages in place, under nonces
+//! of the caller's choice.
 
 ghost use Rattle.std.specs.Prelude.{◌≡◌, ◌-◌, ◌↔◌, length, IsTrue, IsFalse};
 ghost use Rattle.aead_ciphers_base.specs.Aes.{aes};
@@ -15,27 +16,27 @@ use aead_ciphers_wide::aes::Width;
 use aead_ciphers_wide::aes_gcm::ExpandedKey;
 use std::mem::size_of;
 
-// The `words` of the type in the header have as many bytes.
+// This is also the size of `deerlapse_key` in the header.
 const _: () = prove!(size_of::<ExpandedKey>() == 3192);
 
-/// Whether the key has as many rounds as an AES key. A key of zeros has none.
+/// Returns whether the key has 10 to 14 rounds, as every AES key has. A key of zeros has 0 rounds.
 pub(crate) fn has_rounds(key: &ExpandedKey) -> bool
     ensures { IsTrue result ↔ HasRounds key.now }
 {
     key.rounds >= 10 && key.rounds <= 14
 }
 
-/// Returns the width of the planes of every key that is expanded here. No result depends on it, so there is no contract, and
-/// the calls' contracts hold for either. This is that of processors whose vectors have 128 bits: in the assembly for others,
-/// `tools/dist` has the number of the other width in its place.
+/// Returns the width of the planes of each key that a call expands. It has no contract, since no result depends on the width: the
+/// contracts of the calls are proved for either. The source has the width for processors whose vectors have 128 bits. In the
+/// assembly for processors with wider vectors, `tools/dist` replaces it by the other one.
 #[inline(never)]
 pub(crate) fn width() -> Width {
     Width::Bits128
 }
 
-/// Expands a key once, for the calls that take an expanded key. The previous bytes of `key` are not read.
+/// Expands a key once, for all calls under a `deerlapse_key`. The previous bytes of `key` are not read.
 ///
-/// Returns false if `bytes` does not have 16 or 32 bytes, and every byte of `key` is then zero.
+/// Returns false if `bytes` does not have 16 or 32 bytes. Every byte of `key` is then zero.
 #[unsafe(no_mangle)]
 pub extern "C" fn deerlapse_key_init(key: &mut ExpandedKey, bytes: &[u8]) -> bool
     ensures { ExpandsKey bytes.now result key.new }
@@ -43,7 +44,7 @@ pub extern "C" fn deerlapse_key_init(key: &mut ExpandedKey, bytes: &[u8]) -> boo
     expand(key, bytes, width())
 }
 
-/// Expands a key whose batches take planes of this width.
+/// Does the same as `deerlapse_key_init`, for planes of this width.
 pub(crate) fn expand(key: &mut ExpandedKey, bytes: &[u8], width: Width) -> bool
     ensures expands { ExpandsKey bytes.now result key.new }
     ensures width { IsTrue result → key.new.width ≡ width_bits width }
@@ -69,6 +70,8 @@ pub extern "C" fn deerlapse_key_wipe(key: &mut ExpandedKey)
 }
 
 /// Does the same as `deerlapse_seal`, under an expanded key.
+///
+/// Returns false if the key is all zeros, or if a length is not one that `deerlapse_seal` takes.
 #[unsafe(no_mangle)]
 pub extern "C" fn deerlapse_key_seal(
     key: &ExpandedKey,
@@ -100,6 +103,9 @@ pub extern "C" fn deerlapse_key_seal(
 }
 
 /// Does the same as `deerlapse_open`, under an expanded key.
+///
+/// Returns false if the key is all zeros, if there are fewer than 16 bytes from `start` on, if a length is not one that
+/// `deerlapse_seal` takes, or if the tag is wrong.
 #[unsafe(no_mangle)]
 pub extern "C" fn deerlapse_key_open(
     key: &ExpandedKey,
@@ -131,8 +137,11 @@ pub extern "C" fn deerlapse_key_open(
     }
 }
 
-/// Does the same as `deerlapse_key_open` for a ciphertext from `start` on, with a separate tag. The tag is not read before the
-/// lengths are checked, since it may come right after `in_out`.
+/// Does the same as `deerlapse_key_open` for a ciphertext whose tag is not in `in_out`. The tag may come right after `in_out`, so
+/// it is not read before the lengths are checked.
+///
+/// Returns false if the key is all zeros, if `start` is beyond the end of `in_out`, if a length is not one that `deerlapse_seal`
+/// takes, or if the tag is wrong.
 #[unsafe(no_mangle)]
 pub extern "C" fn deerlapse_key_open_separate_tag(
     key: &ExpandedKey,

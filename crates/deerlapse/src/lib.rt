@@ -1,10 +1,10 @@
-//! The library's calls for C, C++ and plain Rust: a static library, with the header `include/deerlapse.h`.
-//!
-//! The planes of every key have the width that `key::width` returns, which is the only thing in which the assembly for one
-//! processor and that for another differ in source. A key of the other width works just as well.
+//! The library's calls for C, C++ and plain Rust, as a static library. The header `include/deerlapse.h` declares them.
 //!
 //! A slice is a pointer and then a length in C. No call allocates memory or keeps a pointer. A call that returns false leaves
-//! every byte unchanged, except that `deerlapse_key_init` then zeroes the key.
+//! every byte unchanged, except that `deerlapse_key_init` then fills the key with zeros.
+//!
+//! The assembly for one processor differs in source from that for another only in the width of the planes of each key, which
+//! `key::width` returns. A call takes a key of either width.
 #![tactic(auto)]
 
 mod aes_gcm;

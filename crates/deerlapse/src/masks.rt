@@ -1,4 +1,5 @@
-//! Header protection masks of QUIC (RFC 9001 section 5.4).
+//! Header protection masks of QUIC (RFC 9001 section 5.4), with AES or ChaCha20, under key bytes that each call expands for
+//! itself.
 
 ghost use Rattle.std.specs.Prelude.{◌≡◌, ◌↔◌, length, IsTrue, IsFalse};
 ghost use Rattle.aead_ciphers_base.specs.Mask.{aes_mask, chacha_mask};
@@ -12,7 +13,7 @@ use aead_ciphers_wide::aes::BlockKey;
 /// Writes the header protection mask for a sample of 16 bytes, with AES-128 for a key of 16 bytes and with AES-256 for one of
 /// 32 (RFC 9001 section 5.4.3).
 ///
-/// Returns false if the key has any other length.
+/// Returns false if the key has another length.
 #[unsafe(no_mangle)]
 pub extern "C" fn deerlapse_mask_aes(key: &[u8], sample: &Sample, mask: &mut [u8; 5]) -> bool
     ensures accepted { IsTrue result ↔ IsAesKeyLen (length key.now) }

@@ -1,4 +1,5 @@
-//! A key with an IV and the numbers of its messages, each with its own nonce (RFC 8446 section 5.3, RFC 9001 section 5.3).
+//! The key, the IV and the numbers of a `deerlapse_sealer` or a `deerlapse_opener`, and the nonce of a number (RFC 8446 section
+//! 5.3, RFC 9001 section 5.3).
 
 ghost use Rattle.std.specs.Prelude.{◌≡◌, IsTrue};
 ghost use Rattle.aead_ciphers.specs.Counting.{xored_nonce};
@@ -12,7 +13,8 @@ use aead_ciphers_wide::aes::Width;
 use aead_ciphers_wide::aes_gcm::ExpandedKey;
 use std::mem::size_of;
 
-/// An AES-GCM key for the nonces of an IV and the numbers from `next` up to `limit`, exclusive. It is in the caller's memory.
+/// A sealer or an opener: an AES-GCM key, an IV, and the numbers from `next` up to `limit`, exclusive, that messages get. The IV
+/// and a number give the nonce of a message. The struct is in the caller's memory.
 #[repr(C)]
 #[derive(Drop)]
 pub struct NumberedKey {
@@ -20,7 +22,7 @@ pub struct NumberedKey {
     pub key: ExpandedKey,
     /// The number of the next message.
     pub next: u64,
-    /// The end of the numbers: no message gets this one.
+    /// The end of the numbers, which no message gets.
     pub limit: u64,
     /// The IV, which is XORed with each number.
     pub iv: [u8; NONCE_LEN],
@@ -30,11 +32,11 @@ pub struct NumberedKey {
 
 const ROOM_LEN: usize = 220;
 
-// The `words` of the types in the header have as many bytes.
+// This is also the size of `deerlapse_sealer` and `deerlapse_opener` in the header.
 const _: () = prove!(size_of::<NumberedKey>() == 3440);
 
-/// Initializes a key whose first message gets the number `first`, and whose batches take planes of this width. Its previous
-/// bytes are not read.
+/// Initializes a sealer or an opener with an expanded key, for planes of this width, its IV, and the numbers from `first` up to
+/// `limit`, exclusive. Its previous bytes are not read.
 ///
 /// Returns false if the key does not have 16 or 32 bytes, or if `first` is above `limit`.
 pub(crate) fn fill(
@@ -62,7 +64,7 @@ pub(crate) fn fill(
     true
 }
 
-/// Overwrites a key with zeros. It has no number left, and its key is none.
+/// Overwrites a sealer or an opener with zeros. It then has no number left, and no key.
 pub(crate) fn wipe(numbered: &mut NumberedKey)
     ensures { numbered.new ≡ zero_numbered_key }
 {
@@ -73,7 +75,7 @@ pub(crate) fn wipe(numbered: &mut NumberedKey)
     numbered.room = [0; ROOM_LEN];
 }
 
-/// Writes the nonce of 12 bytes for a number under an IV (RFC 8446 section 5.3), for opening what a sealer sealed.
+/// Writes the nonce of 12 bytes that a sealer with this IV uses for a number (RFC 8446 section 5.3).
 #[unsafe(no_mangle)]
 pub extern "C" fn deerlapse_nonce(iv: &[u8; NONCE_LEN], number: u64, nonce: &mut [u8; NONCE_LEN])
     ensures { nonce.new ≡ xored_nonce iv.now number }

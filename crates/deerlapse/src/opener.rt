@@ -1,4 +1,5 @@
-//! A key that opens what a sealer sealed, in order or by number.
+//! A `deerlapse_opener`: an AES-GCM key that opens what a sealer sealed, in the order of the numbers or by a number that the
+//! caller knows.
 
 ghost use Rattle.std.specs.Prelude.{◌≡◌, ◌+◌, ◌-◌, ◌<◌, length, IsTrue, IsFalse};
 ghost use Rattle.aead_ciphers_base.specs.Aes.{aes};
@@ -11,7 +12,7 @@ use crate::key::{deerlapse_key_open, width};
 use crate::numbered_key::{NumberedKey, fill, wipe};
 use aead_ciphers::aead::{NONCE_LEN, nonce_of};
 
-/// Initializes an opener whose first message has the number `first`. Its previous bytes are not read.
+/// Initializes an opener of the messages with the numbers from `first` up to `limit`, exclusive. Its previous bytes are not read.
 ///
 /// Returns false if the key does not have 16 or 32 bytes, or if `first` is above `limit`.
 #[unsafe(no_mangle)]
@@ -27,7 +28,7 @@ pub extern "C" fn deerlapse_opener_init(
     fill(opener, key, iv, first, limit, width())
 }
 
-/// Returns the number of the next message.
+/// Returns the number of the message that is opened next in order.
 #[unsafe(no_mangle)]
 pub extern "C" fn deerlapse_opener_next(opener: &NumberedKey) -> u64
     ensures { result ≡ opener.now.next }
@@ -37,8 +38,8 @@ pub extern "C" fn deerlapse_opener_next(opener: &NumberedKey) -> u64
 
 /// Does the same as `deerlapse_open` under the nonce of the next number, and then counts the number up by one.
 ///
-/// Returns false if no number is left, if the opener is all zeros, or if `deerlapse_open` does. The number is then not counted,
-/// so the message with this number can still be opened.
+/// Returns false if no number is left, if the opener is all zeros, or if `deerlapse_open` does. The number is not counted up
+/// then, so the message with this number can still be opened.
 #[unsafe(no_mangle)]
 pub extern "C" fn deerlapse_opener_open(
     opener: &mut NumberedKey,
@@ -70,7 +71,7 @@ pub extern "C" fn deerlapse_opener_open(
 
 /// Does the same as `deerlapse_open` under the nonce of a number that the caller knows, for example from a packet.
 ///
-/// It counts nothing: whether the number was opened before is the caller's responsibility.
+/// The call counts nothing: it is the caller's responsibility to know which numbers were opened before.
 ///
 /// Returns false if the opener is all zeros, or if `deerlapse_open` does.
 #[unsafe(no_mangle)]

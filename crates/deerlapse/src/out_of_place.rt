@@ -1,4 +1,5 @@
-//! Sealing and opening from one buffer to another, which do not overlap. A wrapper in the header passes the length of `out`.
+//! Sealing and opening under a `deerlapse_key` from one buffer to another. The buffers do not overlap. An inline function of the
+//! header calls each of these calls with the length of `out`, which its own caller does not pass.
 
 ghost use Rattle.std.specs.Prelude.{◌≡◌, ◌+◌, ◌↔◌, length, take, drop, IsTrue, IsFalse};
 ghost use Rattle.aead_ciphers_base.specs.Aes.{aes};
@@ -42,7 +43,7 @@ pub extern "C" fn deerlapse_key_seal_to_sized(
 }
 
 /// Does the same as `deerlapse_key_open_separate_tag`, but leaves the ciphertext unchanged and writes the plaintext to `out`,
-/// after the tag is verified. The tag is not read before the lengths are checked, since it may come right after the ciphertext.
+/// after the tag is verified. The tag may come right after the ciphertext, so it is not read before the lengths are checked.
 ///
 /// Also returns false if `out` does not have as many bytes as the ciphertext.
 #[unsafe(no_mangle)]
@@ -77,8 +78,8 @@ pub extern "C" fn deerlapse_key_open_to_sized(
     .is_ok()
 }
 
-/// Does the same as `deerlapse_key_seal`, but leaves the message unchanged and writes the ciphertext and its tag to `out`: n
-/// bytes become n + 16.
+/// Does the same as `deerlapse_key_seal`, but leaves the message unchanged and writes the ciphertext and the tag after it to
+/// `out`: n bytes become n + 16.
 ///
 /// Also returns false if `out` does not have 16 bytes more than the message.
 #[unsafe(no_mangle)]
@@ -105,10 +106,10 @@ pub extern "C" fn deerlapse_key_seal_append_tag_sized(
     }
 }
 
-/// Does the same as `deerlapse_key_open` for a ciphertext and tag that are the whole of `ciphertext_and_tag`, but leaves them
-/// unchanged and writes the plaintext to `out`, after the tag is verified: n bytes become n - 16.
+/// Does the same as `deerlapse_key_open` with the start 0, but leaves the ciphertext and its tag unchanged and writes the
+/// plaintext to `out`, after the tag is verified: n bytes become n - 16.
 ///
-/// Also returns false if `out` does not have 16 bytes less.
+/// Also returns false if `out` does not have 16 bytes less than `ciphertext_and_tag`.
 #[unsafe(no_mangle)]
 pub extern "C" fn deerlapse_key_open_appended_tag_sized(
     key: &ExpandedKey,

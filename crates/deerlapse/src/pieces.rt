@@ -1,4 +1,4 @@
-//! Sealing a message in pieces, under an expanded key.
+//! A `deerlapse_message`: a message that is sealed in pieces, under a `deerlapse_key`.
 
 ghost use Rattle.std.specs.Prelude.{◌≡◌, ◌↔◌, ◌+◌, ◌<◌, ℕ, List, [], length, replicate, IsTrue, IsFalse};
 ghost use Rattle.aead_ciphers_base.specs.Aes.{aes};
@@ -12,10 +12,10 @@ use aead_ciphers::aead::{Aad, MAX_TAG_LEN, NONCE_LEN, Nonce, Unspecified};
 use aead_ciphers_wide::aes_gcm::{ExpandedKey, SealState};
 use std::mem::{replace, size_of};
 
-// The `words` of the type in the header have as many bytes.
+// This is also the size of `deerlapse_message` in the header.
 const _: () = prove!(size_of::<SealState>() == 176);
 
-/// Begins a message, of which no piece is sealed yet. The previous bytes of `message` are not read.
+/// Begins a message under this key and nonce, with this AAD. The previous bytes of `message` are not read.
 ///
 /// Returns false if the key is zeros, or if the AAD has 2^61 bytes or more.
 #[unsafe(no_mangle)]
@@ -64,7 +64,7 @@ pub extern "C" fn deerlapse_key_update(
     has_rounds(key) && message.begun != 0 && key.update(message, in_out).is_ok()
 }
 
-/// Ends the message, and writes the tag of its AAD and of the ciphertexts of all its pieces in a row. `message` is then all
+/// Ends the message, and writes the tag of its AAD and of the ciphertexts of its pieces, one after another. `message` is then all
 /// zeros.
 ///
 /// Returns false if the message has not begun, or if the key is zeros.

@@ -1,4 +1,5 @@
-//! Keys of QUIC from secrets, and packets that they protect by their numbers (RFC 9001 section 5, RFC 9369 section 3.3).
+//! A `deerlapse_quic_key`: a key that seals and opens the payloads of QUIC's packets by their numbers (RFC 9001 section 5.3), and
+//! the secrets that it is derived from (RFC 9001 sections 5.1, 5.2 and 6.1, RFC 9369 section 3.3).
 
 ghost use Rattle.std.specs.Prelude.{◌≡◌, ◌-◌, ◌^◌, ◌<◌, ◌≤◌, ◌↔◌, length, IsTrue, IsFalse, IsSome, IfSome};
 ghost use Rattle.aead_ciphers_base.specs.Aes.{aes};
@@ -16,7 +17,7 @@ use aead_ciphers::aead::{MAX_TAG_LEN, NONCE_LEN, nonce_of};
 use aead_ciphers_wide::aes::Width;
 use key_derivation::quic::{QuicSecret, Version};
 
-/// The end of the packet numbers (RFC 9000 section 12.3).
+/// The number after the highest packet number, which is 2^62 - 1 (RFC 9000 section 12.3).
 const NUMBERS_END: u64 = 1 << 62;
 
 /// Initializes a key from its bytes and its IV. Its previous bytes are not read.
@@ -33,7 +34,8 @@ pub extern "C" fn deerlapse_quic_key_init(
     fill(key, bytes, iv, width())
 }
 
-/// Initializes the key and the IV for the packets of a secret, in the version with this number. Its previous bytes are not read.
+/// Initializes a key with the key and the IV of a secret, in the version with this number (RFC 9001 section 5.1, RFC 9369 section
+/// 3.3.2). Its previous bytes are not read.
 ///
 /// Returns false if the version is neither 1 nor 2, or if the secret does not have 32 or 48 bytes.
 #[unsafe(no_mangle)]
@@ -47,7 +49,7 @@ pub extern "C" fn deerlapse_quic_key_from_secret(
     fill_from_secret(key, version, secret, width())
 }
 
-/// Initializes the key and the IV of a secret, for planes of this width.
+/// Does the same as `deerlapse_quic_key_from_secret`, for planes of this width.
 pub(crate) fn fill_from_secret(
     key: &mut TrafficKey,
     version: u32,
@@ -67,8 +69,8 @@ pub(crate) fn fill_from_secret(
     fill(key, keys.key.as_slice(), &keys.iv, width)
 }
 
-/// Writes the secrets of the Initial packets that a client and a server send, from the Destination Connection ID of the client's
-/// first one (RFC 9001 section 5.2, RFC 9369 section 3.3.1).
+/// Writes the secrets that protect the Initial packets of a client and of a server. They are derived from the Destination
+/// Connection ID of the client's first Initial packet (RFC 9001 section 5.2, RFC 9369 section 3.3.1).
 ///
 /// Returns false if the version is neither 1 nor 2, or if the ID has more than 20 bytes.
 #[unsafe(no_mangle)]
@@ -122,8 +124,8 @@ pub extern "C" fn deerlapse_quic_next_secret(version: u32, secret: &mut [u8]) ->
     true
 }
 
-/// Encrypts the payload of the packet with this number in place, and writes its tag (RFC 9001 section 5.3). The header, which is
-/// not masked yet, is the AAD.
+/// Encrypts in place the payload of the packet with this number, and writes its tag of 16 bytes (RFC 9001 section 5.3). The AAD
+/// is the header, which is not masked yet.
 ///
 /// Returns false if the key is all zeros, if the number is 2^62 or more, or if a length is not one that `deerlapse_seal` takes.
 #[unsafe(no_mangle)]
@@ -150,10 +152,10 @@ pub extern "C" fn deerlapse_quic_key_seal(
     deerlapse_key_seal(&key.key, nonce.as_ref(), header, payload, tag)
 }
 
-/// Opens the payload of the packet with this number in place, with its tag in the last 16 bytes (RFC 9001 section 5.3). The
-/// header, whose mask is removed, is the AAD.
+/// Opens in place the payload of the packet with this number, whose last 16 bytes are its tag (RFC 9001 section 5.3), and writes
+/// the length of the plaintext. The AAD is the header, whose mask is removed already.
 ///
-/// It counts nothing: whether the number was opened before is the caller's responsibility.
+/// The call counts nothing: it is the caller's responsibility to know which numbers were opened before.
 ///
 /// Returns false if the tag is wrong, if the key is all zeros, if the number is 2^62 or more, or if a length is not one that
 /// `deerlapse_open` takes.

@@ -1,4 +1,5 @@
-//! Keys of TLS 1.3 from secrets, and records that they protect by their numbers (RFC 8446 sections 5.2 and 7.3).
+//! A `deerlapse_record_key`: a key that seals and opens the records of TLS 1.3 by their numbers (RFC 8446 section 5.2), and the
+//! traffic secrets that it is derived from (sections 7.2 and 7.3).
 
 ghost use Rattle.std.specs.Prelude.{◌≡◌, ◌≢◌, ◌+◌, ◌-◌, ◌^◌, ◌≤◌, ◌↔◌, length, take, IsTrue, IsFalse};
 ghost use Rattle.aead_ciphers_base.specs.Aes.{aes};
@@ -31,7 +32,7 @@ pub extern "C" fn deerlapse_record_key_init(
     fill(key, bytes, iv, width())
 }
 
-/// Initializes the key and the IV of a traffic secret (RFC 8446 section 7.3). Its previous bytes are not read.
+/// Initializes a key with the key and the IV of a traffic secret (RFC 8446 section 7.3). Its previous bytes are not read.
 ///
 /// Returns false if the secret does not have 32 or 48 bytes.
 #[unsafe(no_mangle)]
@@ -41,7 +42,7 @@ pub extern "C" fn deerlapse_record_key_from_secret(key: &mut TrafficKey, secret:
     fill_from_secret(key, secret, width())
 }
 
-/// Initializes the key and the IV of a secret, for planes of this width.
+/// Does the same as `deerlapse_record_key_from_secret`, for planes of this width.
 pub(crate) fn fill_from_secret(key: &mut TrafficKey, secret: &[u8], width: Width) -> bool
     ensures derives { DerivesRecordKey secret.now key.old result key.new }
     ensures width { IsTrue result → key.new.key.width ≡ width_bits width }
@@ -70,9 +71,9 @@ pub extern "C" fn deerlapse_tls_next_secret(secret: &mut [u8]) -> bool
     true
 }
 
-/// Seals the payload of the record with this number in place, the bytes after its header (RFC 8446 section 5.2). The content is
-/// the first `content_len` bytes of `payload`. Its type, zeros as padding and the tag replace the bytes after it, so `payload`
-/// has at least 17 bytes more. Its length gives the header, which is the AAD.
+/// Seals in place the payload of the record with this number, which is all of the record but its header (RFC 8446 section 5.2).
+/// The content is the first `content_len` bytes of `payload`. Its type, zeros as padding and the tag replace the bytes after it,
+/// of which there are at least 17. The AAD is the header of a record whose payload has this length.
 ///
 /// Returns false if the key is all zeros, if the type is 0, or if `payload` is too short for the content or is longer than
 /// 2^14 + 17 bytes.
@@ -110,11 +111,12 @@ pub extern "C" fn deerlapse_record_key_seal(
     sealed
 }
 
-/// Opens the payload of the record with this number in place, the bytes after its header (RFC 8446 section 5.2), and writes the
-/// type and the length of its content, which is then at the front of `payload`. The length of `payload` gives the header, which
-/// is the AAD. The type is 0, and the length too, if the record is authentic but has no type, since its inner plaintext is zeros.
+/// Opens in place the payload of the record with this number, which is all of the record but its header (RFC 8446 section 5.2),
+/// and writes the type and the length of its content. The content is then at the front of `payload`. The AAD is the header of a
+/// record whose payload has this length. If the record is authentic and its inner plaintext is all zeros, it has no type: the
+/// type and the length are then 0.
 ///
-/// It counts nothing: whether the number was opened before is the caller's responsibility.
+/// The call counts nothing: it is the caller's responsibility to know which numbers were opened before.
 ///
 /// Returns false if the tag is wrong, if the key is all zeros, or if `payload` has fewer than 17 or more than 2^14 + 256 bytes.
 #[unsafe(no_mangle)]

@@ -1,4 +1,4 @@
-//! A key that seals each message under its own nonce.
+//! A `deerlapse_sealer`: an AES-GCM key that numbers the messages that it seals, and seals each under the nonce of its number.
 
 ghost use Rattle.std.specs.Prelude.{◌≡◌, ◌+◌, ◌<◌, ◌↔◌, length, IsTrue, IsFalse};
 ghost use Rattle.aead_ciphers_base.specs.Aes.{aes};
@@ -10,8 +10,8 @@ use crate::key::{deerlapse_key_seal, width};
 use crate::numbered_key::{NumberedKey, fill, wipe};
 use aead_ciphers::aead::{MAX_TAG_LEN, NONCE_LEN, nonce_of};
 
-/// Initializes a sealer whose first message gets the number `first`. Its previous bytes are not read. A copy of it would use
-/// its nonces again.
+/// Initializes a sealer whose messages get the numbers from `first` up to `limit`, exclusive. Its previous bytes are not read. A
+/// copy of it would use its nonces again.
 ///
 /// Returns false if the key does not have 16 or 32 bytes, or if `first` is above `limit`.
 #[unsafe(no_mangle)]
@@ -35,10 +35,10 @@ pub extern "C" fn deerlapse_sealer_next(sealer: &NumberedKey) -> u64
     sealer.next
 }
 
-/// Encrypts `in_out` in place under the nonce of the next number, and writes its tag of 16 bytes.
+/// Encrypts `in_out` in place under the nonce of the next number, writes its tag of 16 bytes, and counts the number up by one.
 ///
 /// Returns false if no number is left, if the sealer is all zeros, or if a length is not one that `deerlapse_seal` takes. No
-/// number is then used.
+/// number is used then.
 #[unsafe(no_mangle)]
 pub extern "C" fn deerlapse_sealer_seal(
     sealer: &mut NumberedKey,

@@ -1,5 +1,5 @@
-//! The calls on secrets, packets and records: RFC 9001 and RFC 9369 appendix A, RFC 8448 section 3, RFC 5869 appendix A.1 and RFC
-//! 4231 section 4.3.
+//! Tests of the calls on secrets, packets and records, with the vectors of RFC 9001 and RFC 9369 appendix A, RFC 8448 section 3,
+//! RFC 5869 appendix A.1 and RFC 4231 section 4.3.
 
 ghost use Rattle.deerlapse.specs.AesKey.{IsKeyOrNone};
 ghost use Rattle.deerlapse.specs.HeaderKey.{IsHeaderKeyOrNone};
@@ -41,7 +41,7 @@ const PACKETS: [(u32, &str, &str); 2] = [
     (VERSION_2, rfc_9369::A_2_PACKET, rfc_9369::A_3_PACKET),
 ];
 
-/// A key of zeros.
+/// Returns a key of zeros.
 fn no_key() -> TrafficKey {
     TrafficKey {
         key: ExpandedKey::zeros(),
@@ -50,7 +50,7 @@ fn no_key() -> TrafficKey {
     }
 }
 
-/// A key and its IV are all zeros.
+/// Asserts that a key and its IV are all zeros.
 fn is_no_key(rt: &impl Abort, traffic: &TrafficKey, what: &str) {
     is_zero(rt, &traffic.key, what);
     same(rt, &traffic.iv, &[0; 12], what);
@@ -172,7 +172,7 @@ const SECRET: [u8; 32] = [
     0x54, 0x43, 0xf1, 0x82, 0x03, 0xa0, 0x7d, 0x60, 0x60, 0xf6, 0x88, 0xf3, 0x0f, 0x21, 0x63, 0x2b,
 ];
 
-/// Of each version, the label of the secret after a key update, and that secret.
+/// For each version, the label of the secret after a key update, and that secret.
 const NEXT: [(u32, &[u8], [u8; 32]); 2] = [
     (
         VERSION_1,

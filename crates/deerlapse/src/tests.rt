@@ -1,4 +1,4 @@
-//! The calls on standard vectors.
+//! Tests of the calls of AES-GCM, of the masks and of ChaCha20, with vectors of the standards.
 
 ghost use Rattle.deerlapse.specs.AesKey.{IsKeyOrNone};
 
@@ -35,28 +35,28 @@ use std::fmt::Debug;
 use std::process::Abort;
 use std::test::Fail;
 
-/// Each width with the other.
+/// Each width of planes, with the other one.
 const WIDTHS: [(Width, Width); 2] = [
     (Width::Bits128, Width::Bits256),
     (Width::Bits256, Width::Bits128),
 ];
 
-/// Two lists of bytes are equal.
+/// Asserts that two lists of bytes are equal.
 pub(crate) fn same(rt: &impl Abort, found: &[u8], wanted: &[u8], what: &str) {
     assert_eq!(rt; found, wanted, "{what}");
 }
 
-/// Two values are equal.
+/// Asserts that two values are equal.
 pub(crate) fn equal<T: Debug + PartialEq>(rt: &impl Abort, found: &T, wanted: &T, what: &str) {
     assert_eq!(rt; found, wanted, "{what}");
 }
 
-/// A call is accepted.
+/// Asserts that a condition is true, such as that a call succeeded.
 pub(crate) fn accepted(rt: &impl Abort, answer: bool, what: &str) {
     assert!(rt; answer, "{what}");
 }
 
-/// An expanded key is all zeros.
+/// Asserts that an expanded key is all zeros.
 pub(crate) fn is_zero(rt: &impl Abort, key: &ExpandedKey, what: &str) {
     equal(rt, &key.planes, &[[0; 16]; 15], what);
     equal(rt, &(key.rounds, key.width), &(0, 0), what);
@@ -65,7 +65,7 @@ pub(crate) fn is_zero(rt: &impl Abort, key: &ExpandedKey, what: &str) {
     same(rt, &key.squares, &[0; 512], what);
 }
 
-/// A sealer or an opener is all zeros.
+/// Asserts that a sealer or an opener is all zeros.
 fn has_no_numbers(rt: &impl Abort, numbered: &NumberedKey, what: &str) {
     is_zero(rt, &numbered.key, what);
     equal(rt, &(numbered.next, numbered.limit), &(0, 0), what);
@@ -73,14 +73,14 @@ fn has_no_numbers(rt: &impl Abort, numbered: &NumberedKey, what: &str) {
     same(rt, &numbered.room, &[0; 220], what);
 }
 
-/// A call sealed a case's message.
+/// Asserts that a call sealed a case's message.
 fn is_sealed(rt: &impl Abort, case: &Case, sealed: bool, bytes: &[u8], tag: &[u8]) {
     accepted(rt, sealed, case.name);
     same(rt, bytes, &case.ciphertext, case.name);
     same(rt, tag, &case.tag, case.name);
 }
 
-/// A call opened a case's message, which is at the front.
+/// Asserts that a call opened a case's message, which is at the front.
 fn is_opened(
     rt: &impl Abort,
     case: &Case,
@@ -136,7 +136,7 @@ fn by_both_keys(rt: &impl Abort, alloc: Global, case: &Case) -> Result<(), Fail>
     Ok(())
 }
 
-/// After a key is wiped, it is all zeros, and seals nothing.
+/// Wipes a key, and asserts that it is all zeros then, and seals nothing.
 fn seals_nothing_when_wiped(rt: &impl Abort, key: &mut ExpandedKey, case: &Case) {
     deerlapse_key_wipe(key);
     is_zero(rt, key, case.name);
@@ -243,7 +243,7 @@ fn seals_in_pieces(rt: &impl Abort, key: &ExpandedKey, case: &Case, len: usize) 
     Ok(())
 }
 
-/// A sealer or an opener of zeros.
+/// Returns a sealer or an opener of zeros.
 fn no_numbers() -> NumberedKey {
     NumberedKey {
         key: ExpandedKey::zeros(),
@@ -254,7 +254,7 @@ fn no_numbers() -> NumberedKey {
     }
 }
 
-/// A sealer with one number, 0, whose nonce is the IV: it seals a case's message, and then no other.
+/// Tries a sealer with one number, 0, whose nonce is the IV: it seals a case's message, and then no other.
 fn seals_once(rt: &impl Abort, case: &Case, width: Width) -> Result<(), Fail> {
     let mut sealer = no_numbers();
     let made = match width {
@@ -276,14 +276,14 @@ fn seals_once(rt: &impl Abort, case: &Case, width: Width) -> Result<(), Fail> {
     Ok(())
 }
 
-/// A case's ciphertext and its tag.
+/// Returns a case's ciphertext with the tag after it.
 fn sealed_bytes(case: &Case) -> Result<Vec<u8, Global>, Fail> {
     let mut bytes = case.ciphertext.clone()?;
     bytes.extend_from_slice(&case.tag)?;
     Ok(bytes)
 }
 
-/// An opener with one number, 0, opens a sealed message by it twice, and not by another number.
+/// Asserts that an opener with one number, 0, opens a sealed message twice by that number, and not by another one.
 fn opens_by_number(rt: &impl Abort, opener: &NumberedKey, case: &Case) -> Result<(), Fail>
     requires { IsKeyOrNone opener.now.key }
 {
@@ -298,7 +298,7 @@ fn opens_by_number(rt: &impl Abort, opener: &NumberedKey, case: &Case) -> Result
     Ok(())
 }
 
-/// An opener with one number, 0: it opens a sealed message twice by number, once in order, and then no more.
+/// Asserts that an opener with one number, 0, opens a sealed message twice by number and once in order, and then none in order.
 fn opens_once(rt: &impl Abort, opener: &mut NumberedKey, case: &Case) -> Result<(), Fail>
     requires { IsKeyOrNone opener.old.key }
 {
@@ -346,7 +346,8 @@ fn gcm_spec(rt: HostRuntime) -> Result<(), Fail> {
     Ok(())
 }
 
-/// A message of two batches of sixteen blocks and a rest is sealed with planes of each width, and opened with the other's.
+/// A message of two batches of sixteen blocks and a rest is sealed with planes of each width, and opened with planes of the
+/// other.
 #[test]
 fn long(rt: HostRuntime) -> Result<(), Fail> {
     let (key, nonce, aad) = ([7; 32], [1; 12], [2; 20]);
@@ -386,7 +387,7 @@ fn long(rt: HostRuntime) -> Result<(), Fail> {
     Ok(())
 }
 
-/// A header key of zeros.
+/// Returns a header key of zeros.
 pub(crate) fn no_header_key() -> HeaderKey {
     HeaderKey {
         rounds: 0,
@@ -394,7 +395,7 @@ pub(crate) fn no_header_key() -> HeaderKey {
     }
 }
 
-/// A call wrote the mask of a block, the first bytes of its encryption.
+/// Asserts that a call wrote the mask of a block: the first bytes of the encrypted block.
 fn is_mask(rt: &impl Abort, case: &fips_197::Case, made: bool, mask: &[u8; 5]) {
     accepted(rt, made, case.name);
     same(rt, mask, &case.ciphertext[..5], case.name);
@@ -427,7 +428,7 @@ fn masks(rt: HostRuntime) -> Result<(), Fail> {
     Ok(())
 }
 
-/// A plaintext is encrypted to the ciphertext.
+/// Asserts that a case's plaintext is encrypted to its ciphertext.
 fn encrypts(rt: &impl Abort, case: &rfc_8439::Case) -> Result<(), Fail> {
     let mut bytes = case.plaintext.clone()?;
     let answer = deerlapse_chacha20(&case.key, &case.nonce, case.counter, &mut bytes);

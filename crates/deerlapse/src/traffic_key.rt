@@ -1,4 +1,4 @@
-//! A key with its IV, which protects the packets of QUIC or the records of TLS 1.3 in one direction by their numbers.
+//! The key and the IV of a `deerlapse_quic_key` or a `deerlapse_record_key`, and the suite of a secret, which its length tells.
 
 ghost use Rattle.std.specs.Prelude.{◌≡◌, ◌↔◌, length, IsTrue, IsSome, IfSome};
 ghost use Rattle.aead_ciphers_wide.specs.Width.{width_bits};
@@ -12,13 +12,14 @@ use aead_ciphers_wide::aes_gcm::ExpandedKey;
 use key_derivation::Secret;
 use std::mem::size_of;
 
-/// An AES-GCM key and the IV that is XORed with each number. It is in the caller's memory.
+/// A key of QUIC or of TLS 1.3: an AES-GCM key, and the IV that is XORed with the number of each packet or record. The struct is
+/// in the caller's memory.
 #[repr(C)]
 #[derive(Drop)]
 pub struct TrafficKey {
     /// The expanded key.
     pub key: ExpandedKey,
-    /// The IV.
+    /// The IV, which is XORed with each number.
     pub iv: [u8; NONCE_LEN],
     /// Zeros, so that the struct has no padding.
     pub room: [u8; ROOM_LEN],
@@ -26,16 +27,16 @@ pub struct TrafficKey {
 
 const ROOM_LEN: usize = 4;
 
-// The `words` of the types in the header have as many bytes.
+// This is also the size of `deerlapse_quic_key` and `deerlapse_record_key` in the header.
 const _: () = prove!(size_of::<TrafficKey>() == 3208);
 
-/// The length of a secret of TLS_AES_256_GCM_SHA384, and of a digest of SHA-384.
+/// The length in bytes of a secret of TLS_AES_256_GCM_SHA384, and of a digest of SHA-384.
 pub(crate) const SHA_384_LEN: usize = 48;
 
-/// The length of a secret of TLS_AES_128_GCM_SHA256, and of a digest of SHA-256.
+/// The length in bytes of a secret of TLS_AES_128_GCM_SHA256, and of a digest of SHA-256.
 pub(crate) const SHA_256_LEN: usize = 32;
 
-/// Initializes a key whose batches take planes of this width. Its previous bytes are not read.
+/// Initializes a key with an expanded key, for planes of this width, and its IV. Its previous bytes are not read.
 ///
 /// Returns false if the key does not have 16 or 32 bytes.
 pub(crate) fn fill(traffic: &mut TrafficKey, key: &[u8], iv: &[u8; NONCE_LEN], width: Width) -> bool
@@ -60,7 +61,8 @@ pub(crate) fn wipe(traffic: &mut TrafficKey)
     traffic.room = [0; ROOM_LEN];
 }
 
-/// The secret of these bytes, whose number says which suite's it is.
+/// Returns the secret with these bytes: 32 for TLS_AES_128_GCM_SHA256, or 48 for TLS_AES_256_GCM_SHA384. Returns `None` for any
+/// other length.
 pub(crate) fn secret_of(bytes: &[u8]) -> Option<Secret>
     ensures accepted { IsSome result ↔ IsDigestLen (length bytes.now) }
     ensures made { IfSome result (λ secret. secret ≡ secret_of bytes.now) }

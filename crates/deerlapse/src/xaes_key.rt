@@ -1,4 +1,5 @@
-//! XAES-256-GCM (c2sp.org/XAES-256-GCM): each message is sealed by AES-256-GCM (SP 800-38D) under a key that is derived for it.
+//! A `deerlapse_xaes`: a key of XAES-256-GCM (c2sp.org/XAES-256-GCM), which seals each message with AES-256-GCM (SP 800-38D)
+//! under a key that is derived for the message.
 
 ghost use Rattle.std.specs.Prelude.{◌≡◌, ◌+◌, ◌-◌, ◌↔◌, length, take, drop, IsTrue, IsFalse, IsSome, IfSome};
 ghost use Rattle.aead_ciphers.specs.Gcm.{Fits};
@@ -19,17 +20,18 @@ use aead_ciphers_wide::aes_gcm;
 use std::mem::size_of;
 use xaes::{ExpandedKey, XAES_NONCE_LEN, XNonce};
 
-// The `words` of the type in the header have as many bytes.
+// This is also the size of `deerlapse_xaes` in the header.
 const _: () = prove!(size_of::<ExpandedKey>() == 264);
 
-/// Whether the key has the rounds of an AES-256 key. A key of zeros has none.
+/// Returns whether the key has 14 rounds, as every AES-256 key has. A key of zeros has 0 rounds.
 fn has_rounds(key: &ExpandedKey) -> bool
     ensures { IsTrue result ↔ HasXaesRounds key.now }
 {
     key.rounds == 14
 }
 
-/// Expands the key of the message with this nonce, and returns the nonce of its AES-256-GCM, unless the key is none.
+/// Expands the key of the message with this nonce, and returns the nonce that AES-256-GCM takes for it. Returns `None` if the key
+/// is all zeros.
 fn expand_message_key(
     key: &ExpandedKey,
     nonce: &[u8; XAES_NONCE_LEN],
@@ -48,7 +50,8 @@ fn expand_message_key(
     Some(*key.expand_message_key(nonce, expanded).as_ref())
 }
 
-/// Expands a key of 32 bytes once, for the calls that take it. The previous bytes of `key` are not read. Never fails.
+/// Expands a key of 32 bytes once, for all calls under a `deerlapse_xaes`. The previous bytes of `key` are not read. The call
+/// never fails.
 #[unsafe(no_mangle)]
 pub extern "C" fn deerlapse_xaes_init(key: &mut ExpandedKey, bytes: &[u8; AES_256_KEY_LEN])
     ensures expanded { IsExpanded key.new }
@@ -65,7 +68,7 @@ pub extern "C" fn deerlapse_xaes_wipe(key: &mut ExpandedKey)
     *key = ExpandedKey::zeros();
 }
 
-/// Does the same as `deerlapse_key_seal`, under the key and the nonce of this message.
+/// Does the same as `deerlapse_key_seal` with XAES-256-GCM, whose nonce has 24 bytes. It returns false if that call does.
 #[unsafe(no_mangle)]
 pub extern "C" fn deerlapse_xaes_seal(
     key: &ExpandedKey,
@@ -88,7 +91,7 @@ pub extern "C" fn deerlapse_xaes_seal(
     }
 }
 
-/// Does the same as `deerlapse_key_open`, under the key and the nonce of this message.
+/// Does the same as `deerlapse_key_open` with XAES-256-GCM, whose nonce has 24 bytes. It returns false if that call does.
 #[unsafe(no_mangle)]
 pub extern "C" fn deerlapse_xaes_open(
     key: &ExpandedKey,
@@ -113,7 +116,8 @@ pub extern "C" fn deerlapse_xaes_open(
     }
 }
 
-/// Does the same as `deerlapse_key_open_separate_tag`, under the key and the nonce of this message.
+/// Does the same as `deerlapse_key_open_separate_tag` with XAES-256-GCM, whose nonce has 24 bytes. It returns false if that call
+/// does.
 #[unsafe(no_mangle)]
 pub extern "C" fn deerlapse_xaes_open_separate_tag(
     key: &ExpandedKey,
@@ -138,7 +142,8 @@ pub extern "C" fn deerlapse_xaes_open_separate_tag(
     }
 }
 
-/// Does the same as `deerlapse_key_seal_to_sized`, under the key and the nonce of this message.
+/// Does the same as `deerlapse_key_seal_to_sized` with XAES-256-GCM, whose nonce has 24 bytes. It returns false if that call
+/// does.
 #[unsafe(no_mangle)]
 pub extern "C" fn deerlapse_xaes_seal_to_sized(
     key: &ExpandedKey,
@@ -162,7 +167,8 @@ pub extern "C" fn deerlapse_xaes_seal_to_sized(
     }
 }
 
-/// Does the same as `deerlapse_key_open_to_sized`, under the key and the nonce of this message.
+/// Does the same as `deerlapse_key_open_to_sized` with XAES-256-GCM, whose nonce has 24 bytes. It returns false if that call
+/// does.
 #[unsafe(no_mangle)]
 pub extern "C" fn deerlapse_xaes_open_to_sized(
     key: &ExpandedKey,
@@ -186,7 +192,8 @@ pub extern "C" fn deerlapse_xaes_open_to_sized(
     }
 }
 
-/// Does the same as `deerlapse_key_seal_append_tag_sized`, under the key and the nonce of this message.
+/// Does the same as `deerlapse_key_seal_append_tag_sized` with XAES-256-GCM, whose nonce has 24 bytes. It returns false if that
+/// call does.
 #[unsafe(no_mangle)]
 pub extern "C" fn deerlapse_xaes_seal_append_tag_sized(
     key: &ExpandedKey,
@@ -209,7 +216,8 @@ pub extern "C" fn deerlapse_xaes_seal_append_tag_sized(
     }
 }
 
-/// Does the same as `deerlapse_key_open_appended_tag_sized`, under the key and the nonce of this message.
+/// Does the same as `deerlapse_key_open_appended_tag_sized` with XAES-256-GCM, whose nonce has 24 bytes. It returns false if that
+/// call does.
 #[unsafe(no_mangle)]
 pub extern "C" fn deerlapse_xaes_open_appended_tag_sized(
     key: &ExpandedKey,

@@ -1,4 +1,4 @@
-//! The calls of XAES-256-GCM on its specification's vectors (c2sp.org/XAES-256-GCM).
+//! Tests of the calls of XAES-256-GCM with the vectors of its specification (c2sp.org/XAES-256-GCM).
 
 ghost use Rattle.deerlapse.specs.XaesKey.{IsXaesKeyOrNone};
 
@@ -17,7 +17,7 @@ const NONCE: [u8; 24] = *b"ABCDEFGHIJKLMNOPQRSTUVWX";
 
 const MESSAGE: [u8; 12] = *b"XAES-256-GCM";
 
-/// The byte that each of a key is, the AAD, and the ciphertext with its tag.
+/// The byte of which the key consists, the AAD, and the ciphertext with its tag.
 struct Vector {
     key_byte: u8,
     aad: &'static [u8],
@@ -43,7 +43,7 @@ const VECTORS: [Vector; 2] = [
     },
 ];
 
-/// Seals in place, and opens behind three other bytes.
+/// Seals in place, and opens after three other bytes.
 fn in_place(rt: &impl Abort, alloc: Global, key: &ExpandedKey, row: &Vector) -> Result<(), Fail>
     requires { IsXaesKeyOrNone key.now }
 {
@@ -99,7 +99,7 @@ fn out_of_place(rt: &impl Abort, key: &ExpandedKey, row: &Vector)
     same(rt, &opened, &MESSAGE, "to");
 }
 
-/// Neither half of the nonce may change, and a wiped key opens nothing.
+/// Asserts that the message opens neither under a nonce that differs in a bit of either half, nor under a wiped key.
 fn refuses(rt: &impl Abort, key: &mut ExpandedKey, row: &Vector)
     requires { IsXaesKeyOrNone key.old }
 {
