@@ -1,18 +1,14 @@
 /* The program aeadrun, which FUZZ_PROGRAM names, on lines: its exit status and each byte that it prints, beside what
  * crates/aeadrun/README.md says, with OpenSSL. */
+#define _GNU_SOURCE
 #define FUZZED
-#define LONGEST 30000
-#define MAX_MESSAGE LONGEST
-#define MAX_AAD LONGEST
-#define MAX_START 1
-#define main driver_main
-#include "../../interop/against-openssl.d/driver.c"
-#undef main
+#include "../../interop/against-openssl.d/expected.h"
 #include <errno.h>
 #include <spawn.h>
 #include <sys/wait.h>
 #include <unistd.h>
 
+#define LONGEST 30000
 #define WORDS 8
 
 void fuzz_one(const uint8_t *bytes, size_t len);
@@ -103,43 +99,27 @@ static size_t key_len_of(const word *w) { return is_word(w, "128") ? 16 : is_wor
 
 /* ---- responses */
 
-/* Seals by OpenSSL a message that is in `s`. */
-static void seal(sealing *s, const uint8_t *key, size_t key_len, const uint8_t *nonce, const word *aad) {
-    s->key_len = key_len, s->nonce_len = NONCE, s->aad_len = aad->len;
-    memcpy(s->key, key, key_len);
-    memcpy(s->nonce, nonce, NONCE);
-    memcpy(s->aad, aad->bytes, aad->len);
-    expect_sealed(s);
-}
-
 static void put_sealed(const uint8_t *key, size_t key_len, const uint8_t *nonce, const word *aad, const word *message,
                        bool apart) {
-    static sealing s;
-    s.len = message->len;
-    memcpy(s.message, message->bytes, s.len);
-    seal(&s, key, key_len, nonce, aad);
+    static uint8_t sealed[LONGEST];
+    expect_gcm(key, key_len, nonce, aad->bytes, aad->len, message->bytes, message->len, sealed);
     put("ok");
-    put_bytes(s.sealed, s.len + (apart ? 0 : TAG));
-    if (apart) put_bytes(s.sealed + s.len, TAG);
+    put_bytes(sealed, message->len + (apart ? 0 : TAG));
+    if (apart) put_bytes(sealed + message->len, TAG);
 }
 
-/* What a ciphertext is sealed to is its message, whose tag is compared. */
 static void put_opened(bool can, const uint8_t *key, size_t key_len, const uint8_t *nonce, const word *aad, uint64_t start,
                        word *buffer) {
-    static sealing s;
-    if (can && buffer->len >= TAG && start <= buffer->len - TAG) {
-        s.len = buffer->len - TAG - (size_t)start;
-        memcpy(s.message, buffer->bytes + start, s.len);
-        seal(&s, key, key_len, nonce, aad);
-        memcpy(s.message, s.sealed, s.len);
-        expect_sealed(&s);
-        can = memcmp(s.sealed, buffer->bytes + start, s.len + TAG) == 0;
-    } else {
-        can = false;
+    static uint8_t message[LONGEST];
+    size_t len = 0;
+    can = can && buffer->len >= TAG && start <= buffer->len - TAG;
+    if (can) {
+        len = buffer->len - TAG - (size_t)start;
+        can = opens_by_gcm(key, key_len, nonce, aad->bytes, aad->len, buffer->bytes + start, len, message);
     }
     put(can ? "ok" : "refused");
-    if (can) put_bytes(s.message, s.len);
-    if (can) memcpy(buffer->bytes, s.message, s.len);
+    if (can) put_bytes(message, len);
+    if (can) memcpy(buffer->bytes, message, len);
     put_bytes(buffer->bytes, buffer->len);
 }
 

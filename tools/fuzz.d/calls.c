@@ -12,38 +12,48 @@ void fuzz_one(const uint8_t *bytes, size_t len);
 
 /* What is only read overlaps: the AAD and the nonce are parts of the message. */
 static void overlaps(sealing *s) {
-    expanded key;
-    size_t at = below(s->len + 1);
+    expanded expanded_key, *key = &expanded_key;
+    size_t from = below(s->len + 1);
     if (s->len < XAES_NONCE) return;
-    s->aad_len = below(s->len - at + 1) % MAX_AAD;
-    memcpy(s->aad, s->message + at, s->aad_len);
-    uint8_t *in = guarded(s->message, s->len), *out = guarded(s->message, s->len + TAG);
-    uint8_t *front = in + below(s->len - XAES_NONCE + 1);
+    s->aad_len = below(s->len - from + 1) % MAX_AAD;
+    memcpy(s->aad, s->message + from, s->aad_len);
+    buffer in = copy_of(s->message, s->len), out = copy_of(s->message, s->len + TAG);
+    uint8_t *front = in.at + below(s->len - XAES_NONCE + 1);
     memcpy(s->nonce, front, XAES_NONCE);
     expect_sealed(s);
-    expand(&key, s);
-    CHECK(s->is_xaes ? CALL(deerlapse_xaes_seal_append_tag(&key.xaes, front, in + at, s->aad_len, in, s->len, out))
-                     : CALL(deerlapse_key_seal_append_tag(&key.gcm, front, in + at, s->aad_len, in, s->len, out)));
-    CHECK(memcmp(out, s->sealed, s->len + TAG) == 0 && memcmp(in, s->message, s->len) == 0);
-    release(out, s->len + TAG);
-    release(in, s->len);
+    expand(key, s);
+    CHECK(s->kind == XAES
+              ? CALL(deerlapse_xaes_seal_append_tag(&key->xaes, front, in.at + from, s->aad_len, in.at, s->len, out.at))
+              : CALL(deerlapse_key_seal_append_tag(&key->gcm, front, in.at + from, s->aad_len, in.at, s->len, out.at)));
+    expect(&out, s->sealed, s->len + TAG);
+    is_as_expected(&out);
+    is_as_expected(&in);
+}
+
+static const way *some_way(const way *ways, size_t count, const sealing *s) {
+    const way *by = &ways[below(count)];
+    while (!takes(by, s)) by = &ways[below(count)];
+    return by;
 }
 
 static void check(sealing *s) {
-    seal_way *sealing_way = seal_ways[below((size_t)seal_ways_of(s))];
-    open_way *opening_way = open_ways[below((size_t)open_ways_of(s))];
-    switch (below(11)) {
-    case 0: seals(s, sealing_way); break;
-    case 1: opens(s, opening_way, below(MAX_START)); break;
+    const way *sealing_way = some_way(seal_ways, COUNT(seal_ways), s), *opening_way = some_way(open_ways, COUNT(open_ways), s);
+    const size_t key_len = below(2) ? 16 : 32;
+    expanded key;
+    expand(&key, s);
+    switch (below(9)) {
+    case 0: seals(s, &key, sealing_way, true); break;
+    case 1: opens(s, &key, opening_way, opening_of(s, opening_way->has_start ? below(MAX_START) : 0), true); break;
     case 2: refuses(s, opening_way); break;
-    case 3: elsewhere(s); break;
+    case 3:
+        if (sealing_way->elsewhere) seals_sized(s, &key, sealing_way);
+        if (opening_way->elsewhere) opens_sized(s, &key, opening_way);
+        break;
     case 4: overlaps(s); break;
-    case 5: refuses_keys(s); break;
-    case 6: zero_keys(s), zeros(s); break;
-    case 7: null_messages(s), null_keys(s); break;
-    case 8: chacha20(s); break;
-    case 9: masks(); break;
-    default: false_lengths(s);
+    case 5: limit_holds(&calls[below(CALLS)], key_len, (limited)(1 + below(LIMITED - 1))); break;
+    case 6: the_rest_holds(&calls[below(CALLS)], key_len); break;
+    case 7: chacha20(s); break;
+    default: masks();
     }
 }
 
@@ -51,7 +61,7 @@ void fuzz_one(const uint8_t *bytes, size_t len) {
     static sealing s;
     begin(bytes, len);
     do {
-        make_sealing(&s, below(342), below(2));
+        make_sealing(&s, below(342), below(2) ? GCM : XAES);
         check(&s);
     } while (input_left);
 }

@@ -1,7 +1,7 @@
 /* classify on each record of a stream, which is the input, one after the other, beside RFC 8446 section 5 in C. It ends before a
  * page without access, or begins after one. */
 #define FUZZED
-#include "../../interop/against-openssl.d/random.h"
+#include "../targets.d/checks.h"
 
 enum { PROTECTED, HANDSHAKE, ALERT, CHANGE_CIPHER_SPEC, MORE_NEEDED };
 enum { UNEXPECTED = MORE_NEEDED + 1, PLAIN_TOO_LONG, INNER_TOO_LONG, TOO_LONG, TOO_SHORT };

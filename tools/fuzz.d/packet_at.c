@@ -2,7 +2,7 @@
  * input are the length of the receiver's connection IDs and whether the fixed bit may be 0. The rest is the datagram, which ends
  * before a page without access, or begins after one. */
 #define FUZZED
-#include "../../interop/against-openssl.d/random.h"
+#include "../targets.d/checks.h"
 
 #define NONE UINT64_MAX
 

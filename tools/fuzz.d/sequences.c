@@ -12,6 +12,13 @@
 
 void fuzz_one(const uint8_t *bytes, size_t len);
 
+/* A key with an IV, a number, and the nonce of both. */
+typedef struct {
+    uint8_t key[32], iv[NONCE], nonce[NONCE];
+    size_t len;
+    uint64_t number;
+} traffic;
+
 /* What a key has, if it has anything. */
 typedef struct {
     bool is;
@@ -23,7 +30,7 @@ typedef struct {
 typedef struct {
     traffic t;
     size_t aad_len, len;
-    uint8_t aad[MAX_HEADER], plaintext[MOST], sealed[MOST + TAG];
+    uint8_t aad[MAX_AAD], plaintext[MOST + TAG], sealed[MOST + TAG];
 } sent;
 
 static struct {
@@ -31,8 +38,7 @@ static struct {
     deerlapse_opener opener;
     deerlapse_key key;
     deerlapse_message message;
-    deerlapse_quic_key quic;
-    deerlapse_record_key record;
+    expanded quic, record;
     model of_sealer, of_opener, of_key, of_quic, of_record;
     sent sents[SENT];
     size_t count;
@@ -43,7 +49,7 @@ static struct {
     bool is;
     traffic t;
     size_t aad_len, len;
-    uint8_t aad[MAX_HEADER], plaintext[LONGEST + TAG], sealed[LONGEST];
+    uint8_t aad[MAX_AAD], plaintext[LONGEST + TAG], sealed[LONGEST];
 } pieces;
 
 static uint64_t some_number(void) {
@@ -55,10 +61,19 @@ static uint64_t some_number(void) {
     }
 }
 
+static void set_number(traffic *t, uint64_t number) {
+    t->number = number;
+    memcpy(t->nonce, t->iv, NONCE);
+    for (int i = 0; i < 8; i++) t->nonce[4 + i] ^= (uint8_t)(number >> (56 - 8 * i));
+}
+
 /* A key of a length that is taken, or of another one. */
 static bool draws_key(traffic *t, size_t *len) {
-    random_traffic(t);
-    *len = below(4) ? t->len : no_key_len();
+    t->len = key_len();
+    memcpy(t->key, part(32), 32);
+    memcpy(t->iv, part(NONCE), NONCE);
+    *len = below(4) ? t->len : below(4) ? below(100) : SIZE_MAX - below(100);
+    if (*len != t->len && (*len == 16 || *len == 32)) ++*len;
     return *len == t->len;
 }
 
@@ -74,33 +89,29 @@ static model drawn_model(size_t *len) {
     return m;
 }
 
-static void inits_sealer(void) {
+/* A sealer, or an opener. */
+static void inits_numbered(bool seals) {
     size_t len;
-    model m = drawn_model(&len);
-    deerlapse_sealer was = it.sealer;
-    CHECK(CALL(deerlapse_sealer_init(&it.sealer, m.t.key, len, m.t.iv, m.next, m.limit)) == m.is);
-    if (m.is) it.of_sealer = m;
-    else CHECK(SAME(it.sealer, was));
+    const model m = drawn_model(&len);
+    const deerlapse_sealer sealer_was = it.sealer;
+    const deerlapse_opener opener_was = it.opener;
+    const bool answer = seals ? CALL(deerlapse_sealer_init(&it.sealer, m.t.key, len, m.t.iv, m.next, m.limit))
+                              : CALL(deerlapse_opener_init(&it.opener, m.t.key, len, m.t.iv, m.next, m.limit));
+    CHECK(answer == m.is && (answer || (SAME(it.sealer, sealer_was) && SAME(it.opener, opener_was))));
+    if (m.is) *(seals ? &it.of_sealer : &it.of_opener) = m;
 }
 
-static void inits_opener(void) {
-    size_t len;
-    model m = drawn_model(&len);
-    deerlapse_opener was = it.opener;
-    CHECK(CALL(deerlapse_opener_init(&it.opener, m.t.key, len, m.t.iv, m.next, m.limit)) == m.is);
-    if (m.is) it.of_opener = m;
-    else CHECK(SAME(it.opener, was));
-}
+static void inits_sealer(void) { inits_numbered(true); }
+static void inits_opener(void) { inits_numbered(false); }
 
 static void seals_next(void) {
     static sent s;
     model *m = &it.of_sealer;
     deerlapse_sealer was = it.sealer;
-    s.aad_len = below(MAX_HEADER), s.len = below(MOST + 1), s.t = m->t;
+    s.aad_len = below(MAX_AAD), s.len = below(MOST + 1), s.t = m->t;
     memcpy(s.aad, part(s.aad_len), s.aad_len);
-    memcpy(s.plaintext, part(s.len), s.len);
-    memcpy(s.sealed, s.plaintext, s.len);
-    uint8_t *buffer = guarded(s.plaintext, s.len + TAG), *aad = guarded(s.aad, s.aad_len);
+    memcpy(s.plaintext, part(s.len + TAG), s.len + TAG);
+    buffer in_out = copy_of(s.plaintext, s.len + TAG), aad = copy_of(s.aad, s.aad_len);
     bool right = m->is && m->next < m->limit;
     CHECK(CALL(deerlapse_sealer_next(&it.sealer)) == (m->is ? m->next : 0));
     if (right) {
@@ -108,21 +119,20 @@ static void seals_next(void) {
         CALL(deerlapse_nonce(m->t.iv, m->next, nonce));
         set_number(&s.t, m->next++);
         CHECK(SAME(nonce, s.t.nonce));
-        evp_seal(&s.t, s.aad, s.aad_len, s.sealed, s.len);
-    } else {
-        memcpy(s.sealed + s.len, buffer + s.len, TAG);
+        expect_gcm(s.t.key, s.t.len, s.t.nonce, s.aad, s.aad_len, s.plaintext, s.len, s.sealed);
+        expect(&in_out, s.sealed, s.len + TAG);
     }
-    CHECK(CALL(deerlapse_sealer_seal(&it.sealer, aad, s.aad_len, buffer, s.len, buffer + s.len)) == right);
-    CHECK(memcmp(buffer, s.sealed, s.len + TAG) == 0 && memcmp(aad, s.aad, s.aad_len) == 0);
+    CHECK(CALL(deerlapse_sealer_seal(&it.sealer, aad.at, s.aad_len, in_out.at, s.len, in_out.at + s.len)) == right);
+    is_as_expected(&aad);
+    is_as_expected(&in_out);
     CHECK(right || SAME(it.sealer, was));
     if (right) it.sents[it.count++ % SENT] = s;
-    release(aad, s.aad_len);
-    release(buffer, s.len + TAG);
 }
 
 /* One of the last messages, as it was sealed or with a bit flipped, in order or by some number. */
 static void opens_one(bool in_order) {
     static sent s;
+    static uint8_t found[MOST];
     model *m = &it.of_opener;
     deerlapse_opener was = it.opener;
     s = it.sents[below(SENT)];
@@ -131,17 +141,17 @@ static void opens_one(bool in_order) {
     size_t all = s.len + TAG, len = UNTOUCHED;
     set_number(&t, number);
     if (below(4) == 0) flip_a_bit(s.sealed, all);
-    uint8_t *buffer = guarded(s.sealed, all);
-    bool right = evp_opens(&t, s.aad, s.aad_len, s.sealed, s.len, s.plaintext);
-    right = right && m->is && (!in_order || m->next < m->limit);
+    buffer in_out = copy_of(s.sealed, all);
+    bool right = opens_by_gcm(t.key, t.len, t.nonce, s.aad, s.aad_len, s.sealed, s.len, found) &&
+                 memcmp(found, s.plaintext, s.len) == 0 && m->is && (!in_order || m->next < m->limit);
     CHECK(CALL(deerlapse_opener_next(&it.opener)) == (m->is ? m->next : 0));
-    if (in_order) CHECK(CALL(deerlapse_opener_open(&it.opener, s.aad, s.aad_len, buffer, all, 0, &len)) == right);
-    else CHECK(CALL(deerlapse_opener_open_number(&it.opener, number, s.aad, s.aad_len, buffer, all, 0, &len)) == right);
-    CHECK(len == (right ? s.len : UNTOUCHED) && memcmp(buffer, right ? s.plaintext : s.sealed, s.len) == 0);
-    CHECK(memcmp(buffer + s.len, s.sealed + s.len, TAG) == 0);
+    if (in_order) CHECK(CALL(deerlapse_opener_open(&it.opener, s.aad, s.aad_len, in_out.at, all, 0, &len)) == right);
+    else CHECK(CALL(deerlapse_opener_open_number(&it.opener, number, s.aad, s.aad_len, in_out.at, all, 0, &len)) == right);
+    if (right) expect(&in_out, s.plaintext, s.len);
+    is_as_expected(&in_out);
+    CHECK(len == (right ? s.len : UNTOUCHED));
     if (right && in_order) m->next++;
     else CHECK(SAME(it.opener, was));
-    release(buffer, all);
 }
 
 /* ---- a key, and a message in pieces */
@@ -154,7 +164,7 @@ static void inits_key(void) {
 
 static void begins(void) {
     deerlapse_message was = it.message;
-    size_t aad_len = below(MAX_HEADER);
+    size_t aad_len = below(MAX_AAD);
     const uint8_t *aad = part(aad_len);
     traffic t = it.of_key.t;
     set_number(&t, some_number());
@@ -188,89 +198,76 @@ static void updates(void) {
 
 static void finishes(void) {
     static const deerlapse_message zeros;
+    static uint8_t expected[LONGEST + TAG];
     if (!goes_on()) return;
     deerlapse_message was = it.message;
     bool right = it.of_key.is && pieces.is;
-    uint8_t *tag = guarded(pool, TAG);
-    CHECK(CALL(deerlapse_key_finish(&it.key, &it.message, tag)) == right);
+    buffer tag = copy_of(pool, TAG);
+    CHECK(CALL(deerlapse_key_finish(&it.key, &it.message, tag.at)) == right);
     if (right) {
         CHECK(SAME(it.message, zeros));
-        evp_seal(&pieces.t, pieces.aad, pieces.aad_len, pieces.plaintext, pieces.len);
-        CHECK(memcmp(pieces.sealed, pieces.plaintext, pieces.len) == 0);
-        CHECK(memcmp(tag, pieces.plaintext + pieces.len, TAG) == 0);
+        expect_gcm(pieces.t.key, pieces.t.len, pieces.t.nonce, pieces.aad, pieces.aad_len, pieces.plaintext, pieces.len, expected);
+        CHECK(memcmp(pieces.sealed, expected, pieces.len) == 0);
+        expect(&tag, expected + pieces.len, TAG);
         pieces.is = false;
     } else {
-        CHECK(SAME(it.message, was) && memcmp(tag, pool, TAG) == 0);
+        CHECK(SAME(it.message, was));
     }
-    release(tag, TAG);
+    is_as_expected(&tag);
 }
 
 /* ---- keys of packets and records */
 
-static void inits_quic(void) {
-    const protocol *by = some_quic();
-    size_t len, secret_len = digest_len();
-    const uint8_t *secret = part(secret_len);
-    deerlapse_quic_key was = it.quic;
+/* A key of bytes, or of a secret whose bytes OpenSSL makes: of packets, or of records, which have no version. */
+static void inits(expanded *key, model *m, kind of) {
+    static sealing s;
+    const protocol *by = of == PACKET ? some_quic() : &tls13;
+    const bool by_secret = below(2), is_known = of == RECORD || !by_secret || below(4);
+    const expanded was = *key;
+    size_t len;
+    bool is_taken = is_known;
     traffic t;
-    bool is_taken = draws_key(&t, &len);
-    if (below(2)) {
-        is_taken = below(4);
-        expect_traffic(&t, by, secret, secret_len);
-        const uint32_t version = is_taken ? by->number : no_version();
-        CHECK(CALL(deerlapse_quic_key_from_secret(&it.quic, version, secret, secret_len)) == is_taken);
+    make_key(&s, of, by, by_secret);
+    if (by_secret) {
+        const uint32_t version = is_known ? by->number : no_version();
+        memcpy(t.key, s.key, sizeof t.key), memcpy(t.iv, s.iv, NONCE), t.len = s.key_len;
+        CHECK(CALL(of == PACKET ? deerlapse_quic_key_from_secret(&key->packet, version, s.secret, s.secret_len)
+                                : deerlapse_record_key_from_secret(&key->record, s.secret, s.secret_len)) == is_taken);
     } else {
-        CHECK(CALL(deerlapse_quic_key_init(&it.quic, t.key, len, t.iv)) == is_taken);
+        is_taken = draws_key(&t, &len);
+        CHECK(CALL(of == PACKET ? deerlapse_quic_key_init(&key->packet, t.key, len, t.iv)
+                                : deerlapse_record_key_init(&key->record, t.key, len, t.iv)) == is_taken);
     }
-    if (is_taken) it.of_quic.is = true, it.of_quic.t = t;
-    else CHECK(SAME(it.quic, was));
+    if (is_taken) m->is = true, m->t = t;
+    else CHECK(SAME(*key, was));
 }
 
-static void uses_quic(void) {
-    static packet p;
-    deerlapse_quic_key was = it.quic;
-    p.t = it.of_quic.t;
-    make_packet(&p);
-    if (!it.of_quic.is || below(8) == 0) {
-        refuses_to_seal_packet(&it.quic, &p, it.of_quic.is ? NUMBERS_END + below(4) : p.t.number);
-    } else {
-        seals_packet(&it.quic, &p);
-    }
-    opens_packet(&it.quic, &p, p.len + TAG, it.of_quic.is);
-    flip_a_bit(p.sealed, p.len + TAG);
-    opens_packet(&it.quic, &p, p.len + TAG, false);
-    CHECK(SAME(it.quic, was));
+static void inits_quic(void) { inits(&it.quic, &it.of_quic, PACKET); }
+static void inits_record(void) { inits(&it.record, &it.of_record, RECORD); }
+
+/* Seals and opens, and opens with a bit flipped. A packet's number may be too great. */
+static void uses(const expanded *key, const model *m, kind of) {
+    static sealing s;
+    const expanded was = *key;
+    s.kind = of, s.nonce_len = NONCE, s.secret_len = 0, s.key_len = m->t.len;
+    memcpy(s.key, m->t.key, sizeof s.key);
+    memcpy(s.iv, m->t.iv, NONCE);
+    if (!m->is) s.key_len = 16;
+    if (of == PACKET) make_packet(&s);
+    else make_record(&s, MAX_SEALED);
+    const uint64_t number = s.number;
+    const bool is_too_great = m->is && of == PACKET && below(8) == 0;
+    if (is_too_great) s.number = NUMBERS_END + below(4);
+    are_sealed(&s, key, m->is && !is_too_great);
+    s.number = number;
+    are_opened(&s, key, m->is);
+    flip_a_bit(s.sealed, s.len + TAG);
+    are_opened(&s, key, false);
+    CHECK(SAME(*key, was));
 }
 
-static void inits_record(void) {
-    size_t len, secret_len = digest_len();
-    const uint8_t *secret = part(secret_len);
-    deerlapse_record_key was = it.record;
-    traffic t;
-    bool is_taken = draws_key(&t, &len);
-    if (below(2)) {
-        is_taken = true;
-        expect_traffic(&t, &tls, secret, secret_len);
-        CHECK(CALL(deerlapse_record_key_from_secret(&it.record, secret, secret_len)));
-    } else {
-        CHECK(CALL(deerlapse_record_key_init(&it.record, t.key, len, t.iv)) == is_taken);
-    }
-    if (is_taken) it.of_record.is = true, it.of_record.t = t;
-    else CHECK(SAME(it.record, was));
-}
-
-static void uses_record(void) {
-    static record r;
-    deerlapse_record_key was = it.record;
-    r.t = it.of_record.t;
-    make_record(&r, MAX_SEALED);
-    if (it.of_record.is) seals_record(&it.record, &r);
-    else refuses_to_seal_record(&it.record, r.content_type, r.len, r.content_len);
-    opens_record(&it.record, &r, r.len, it.of_record.is);
-    flip_a_bit(r.sealed, r.len);
-    opens_record(&it.record, &r, r.len, false);
-    CHECK(SAME(it.record, was));
-}
+static void uses_quic(void) { uses(&it.quic, &it.of_quic, PACKET); }
+static void uses_record(void) { uses(&it.record, &it.of_record, RECORD); }
 
 /* Overwrites one of the five with zeros. */
 static void wipes(void) {
@@ -278,14 +275,14 @@ static void wipes(void) {
     case 0: CALL(deerlapse_sealer_wipe(&it.sealer)), it.of_sealer.is = false; break;
     case 1: CALL(deerlapse_opener_wipe(&it.opener)), it.of_opener.is = false; break;
     case 2: CALL(deerlapse_key_wipe(&it.key)), it.of_key.is = false; break;
-    case 3: CALL(deerlapse_quic_key_wipe(&it.quic)), it.of_quic.is = false; break;
-    default: CALL(deerlapse_record_key_wipe(&it.record)), it.of_record.is = false;
+    case 3: CALL(deerlapse_quic_key_wipe(&it.quic.packet)), it.of_quic.is = false; break;
+    default: CALL(deerlapse_record_key_wipe(&it.record.record)), it.of_record.is = false;
     }
 }
 
 /* Those of secrets.c, which keep nothing. */
-static void (*const others[])(void) = {hmacs,        extracts,    expands,      labels,  initial_secrets,
-                                       next_secrets, header_keys, refuses_keys, packets, records};
+static void (*const others[])(void) = {hmacs,        extracts,    expands, labels, initial_secrets,
+                                       next_secrets, header_keys, packets, records};
 
 static void (*const steps[])(void) = {inits_sealer, inits_opener, seals_next, inits_key, begins,     updates,
                                       finishes,     inits_quic,   uses_quic,  wipes,     inits_record, uses_record};
@@ -293,10 +290,9 @@ static void (*const steps[])(void) = {inits_sealer, inits_opener, seals_next, in
 void fuzz_one(const uint8_t *bytes, size_t len) {
     const size_t count = sizeof steps / sizeof steps[0];
     begin(bytes, len);
-    if (!gcm) {
+    if (!hkdf) {
         hkdf = kdf("HKDF");
         label_kdf = kdf("TLS13-KDF");
-        gcm = EVP_CIPHER_CTX_new();
         for (size_t i = 0; i < POOL; i++) pool[i] = pool_was[i] = (uint8_t)(xorshift() >> 24);
     }
     memset(&it, 0, sizeof it);

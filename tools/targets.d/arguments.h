@@ -1,26 +1,17 @@
-/* What is common to the programs of tools/secrets, tools/traces and tools/stack that make calls of a table: the arguments, and
- * what a row says of a call. */
+/* What is common to the programs that make calls of a table: the arguments, and what a row says of a call. */
 #ifndef ARGUMENTS_H
 #define ARGUMENTS_H
 
-#include <stdbool.h>
-#include <stddef.h>
-#include <stdint.h>
+#include "checks.h"
 
 /* The longest message. */
 #ifndef MAX_LEN
 #define MAX_LEN 16384
 #endif
 
-enum { ROOM = MAX_LEN + 64, TAG = 16, NONCE = 12, XAES_NONCE = 24, UNTOUCHED = 7 };
+enum { ROOM = MAX_LEN + 64 };
 
 typedef struct {
-    /* The secrets: those of a hash of 32 bytes go with a key of 16. `other` is room for an output, or for a sealed message. */
-    uint8_t key_bytes[32], header_key[32], nonce[XAES_NONCE], aad[ROOM], message[ROOM], sample[16], secret[48];
-    uint8_t other[ROOM], tag[TAG], mask[5], content_type;
-    size_t opened;
-    /* What is known. A message that is opened in place begins at `start`. */
-    size_t key_len, len, aad_len, start;
 #ifdef DEERLAPSE_H
     deerlapse_key key;
     deerlapse_xaes xaes;
@@ -31,8 +22,28 @@ typedef struct {
     deerlapse_quic_header_key quic_header_key;
     deerlapse_record_key record_key;
 #endif
+    /* What is known. A message that is opened in place begins at `start`. */
+    size_t key_len, len, aad_len, start;
+    size_t opened;
+    /* The secrets: those of a hash of 32 bytes go with a key of 16. `other` is room for an output, or for a sealed message. */
+    uint8_t key_bytes[32], header_key[32], nonce[XAES_NONCE], sample[16], secret[48], tag[TAG], mask[5], content_type;
+    uint8_t aad[ROOM], message[ROOM], other[ROOM];
 } arguments;
 static arguments *at;
+
+/* What a reader of a record is told is told of a secret: a program may say here that it is known from now on. */
+#ifndef TELL
+#define TELL(object) ((void)0)
+#endif
+static unsigned long authentic_records;
+
+/* Whether what a reader is told of an authentic record is right. */
+static inline bool is_told(void) {
+    authentic_records++;
+    TELL(at->opened);
+    TELL(at->content_type);
+    return at->opened == at->len && at->content_type == 23;
+}
 
 /* A call, and what comes before it: both return whether they did what they must. */
 typedef struct {

@@ -2,17 +2,45 @@
 #include "deerlapse.h"
 #include "arguments.h"
 
-/* What a reader of a record is told is told of a secret: a program may say here that it is known from now on. */
-#ifndef TELL
-#define TELL(object) ((void)0)
-#endif
+/* The lengths and numbers that a call limits. */
+typedef enum {
+    UNLIMITED, OF_KEY, OF_SECRET, OF_CODE, OF_AAD, OF_MESSAGE, OF_SEALED, OF_START, OF_OUT, OF_STREAM, OF_WHOLE_STREAM,
+    OF_LAST_BLOCK, OF_LABEL, OF_CONTEXT, OF_OUTPUT, OF_ID, OF_NUMBER, OF_FIRST, OF_RECORD, OF_OPENED_RECORD, OF_CONTENT, LIMITED
+} limited;
+
+/* One of them may be false. A call that has it is then given `false_len` in the place of its length. */
+static limited false_one;
+static size_t false_len;
+static bool has_false_one, is_under_state;
+static size_t false_start, right_len;
+
+static size_t length(limited which, size_t len) {
+    if (which == OF_START && false_start) return false_start;
+    if (which == UNLIMITED || which != false_one) return len;
+    has_false_one = true;
+    right_len = len;
+    return false_len;
+}
+
+/* Where a call reads or writes so many bytes: null if there are none, and these pointers are to be null. */
+enum { NULL_TO_READ = 1, NULL_TO_WRITE = 2 };
+static int nulls;
+
+static uint8_t *unless_null(int kind, limited which, uint8_t *bytes, size_t len) {
+    return nulls & kind && length(which, len) == 0 ? NULL : bytes;
+}
+#define READ(which, bytes, len) unless_null(NULL_TO_READ, which, bytes, len), length(which, len)
+#define WRITE(which, bytes, len) unless_null(NULL_TO_WRITE, which, bytes, len), length(which, len)
+
+/* A key, a sealer or an opener, under which a call does nothing if it is zeros. */
+#define UNDER(state) (is_under_state = true, &at->state)
 
 static size_t at_most(size_t limit) { return at->len < limit ? at->len : limit; }
 static size_t secret_len(void) { return at->key_len == 16 ? DEERLAPSE_SHA256_LEN : DEERLAPSE_SHA384_LEN; }
 
 /* Where a message is sealed and opened in place, and where the tag of each kind of message is. */
 static uint8_t *text(void) { return at->message + at->start; }
-static uint8_t *after_text(void) { return text() + at->len; }
+static uint8_t *after_text(void) { return (uint8_t *)((uintptr_t)text() + length(OF_MESSAGE, at->len)); }
 static uint8_t *apart(void) { return at->tag; }
 static uint8_t *after_other(void) { return at->other + at->len; }
 
@@ -20,13 +48,20 @@ static uint8_t *after_other(void) { return at->other + at->len; }
 static size_t inner_len(void) { return at->len + (at->len + 9 > (1 << 14) ? 1 : 9); }
 static uint8_t *after_inner(void) { return at->message + inner_len(); }
 
-#define CALL(name, before, call) static bool call_##name(void);
-#define EACH(name, before, call) CALL(name, before, call)
-#define SEAL(name, before, call) CALL(name, before, call)
-#define OPEN(name, tag, before, call) CALL(name, before, call)
-#define DENY(name, before, call) CALL(name, before, call)
+#ifdef OTHER_FORMS
+/* The length of `out`, where a message is sealed with its tag or without, and where a sealed one is opened. */
+static size_t out_len(limited of, size_t tag_len) {
+    return length(OF_OUT, of == OF_SEALED ? length(of, at->len + TAG) - TAG : length(of, at->len) + tag_len);
+}
+#endif
+
+#define ONCE(name, before, call) static bool call_##name(void);
+#define EACH(name, before, call) ONCE(name, before, call)
+#define SEAL(name, before, call) ONCE(name, before, call)
+#define OPEN(name, tag, before, call) ONCE(name, before, call)
+#define DENY(name, before, call) ONCE(name, before, call)
 #include "calls.def"
-#undef CALL
+#undef ONCE
 
 #ifndef ONE_STATE
 /* Pieces of 0, 1, 2 bytes and so on. Nothing is written after the end. */
@@ -39,18 +74,11 @@ static bool seal_in_pieces(void) {
 }
 #endif
 
-/* Whether what a reader is told of an authentic record is right. */
-static bool is_told(void) {
-    TELL(at->opened);
-    TELL(at->content_type);
-    return at->opened == at->len && at->content_type == 23;
-}
-
-#define CALL(name, before, call)                         \
+#define ONCE(name, before, call)                      \
     static bool before_##name(void) { return (before); } \
     static bool call_##name(void) { return (call); }
 #include "calls.def"
-#undef CALL
+#undef ONCE
 #undef EACH
 #undef SEAL
 #undef OPEN
@@ -58,7 +86,7 @@ static bool is_told(void) {
 
 static const named calls[] = {
 #define ROW(name, ...) {"deerlapse_" #name, before_##name, call_##name, __VA_ARGS__},
-#define CALL(name, before, call) ROW(name, false, false, false, NULL)
+#define ONCE(name, before, call) ROW(name, false, false, false, NULL)
 #define EACH(name, before, call) ROW(name, true, false, false, NULL)
 #define SEAL(name, before, call) ROW(name, true, true, false, NULL)
 #define OPEN(name, tag, before, call) ROW(name, true, true, true, tag)
