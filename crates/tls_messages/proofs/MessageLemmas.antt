@@ -1,4 +1,4 @@
--- Lemmas on messages.
+-- The header and the length of a message whose bytes come piece by piece, and why it is rejected.
 use Rattle.std.proofs.Common.{◌≡◌, ◌<◌, ◌≤◌, ◌+◌, ℕ, ◌++◌, List, length, take, drop, get_or, arith, ap, ◌∙◌, sym, append_assoc}
 use Rattle.std.proofs.lemmas.List.{take-append-drop, length-take-le, get_or_append_left}
 use Rattle.std.proofs.lemmas.Slice.{take-put_mid}
@@ -12,14 +12,14 @@ use Rattle.tls_messages.specs.declared.stage.Stage.{Stage}
 use Rattle.tls_messages.specs.declared.message_error.MessageError.{MessageError}
 use Rattle.tls_messages.specs.declared.message_error.MessageError.TheVariants.{DataAfterKeys, KeyUpdateLength, KeyUpdateRequest, TooLong, UnexpectedType}
 
--- bytes moved from the front of a content
+-- the bytes that are in the buffer and in the content stay the same when some move from the content's front to the buffer
 pub moved : (at count k : ℕ) (buffer taken rest content : List ℕ) → at ≤ length buffer → length taken ≡ count
     → content ≡ taken ++ rest → take (at + count) (put_mid at k buffer taken) ++ rest ≡ take at buffer ++ content
 moved at count k buffer taken rest content inside len whole =
     ap (λ t. t ++ rest) (take-put_mid at k buffer taken (at + count) (omega (arith, len)) inside)
     ∙ append_assoc (take at buffer) taken rest ∙ ap (λ t. take at buffer ++ t) (sym whole)
 
--- the length of a message stands in its first 4 bytes
+-- the length of a message depends on its first 4 bytes alone
 pub len_of_start : (start rest : List ℕ) → 4 ≤ length start → message_len (start ++ rest) ≡ message_len start
 len_of_start start rest there =
     let one : get_or (start ++ rest) 1 0 ≡ get_or start 1 0 = get_or_append_left start rest 0 1 (omega (arith, there)) in
@@ -41,7 +41,7 @@ len_stays m n was now content rest there inside more within joined =
     sym (len_of_start (take n now) rest long) ∙ ap message_len joined ∙ len_of_start (take m was) content short
     ∙ len_of_take m was there inside
 
--- a part that is not whole is shorter than its message, when more of it is there
+-- a part of a message is shorter than the message, whose length is known when more of it is there
 pub part_shorter : (m n : ℕ) (was now content rest : List ℕ) → m ≤ length was → m ≤ n → 4 ≤ n → n ≤ length now
     → take n now ++ rest ≡ take m was ++ content → IsPart (take m was) → m < message_len now
 part_shorter m n was now content rest inside more there within joined part =
@@ -57,7 +57,7 @@ part_shorter m n was now content rest inside more there within joined part =
           omega (arith, held, short, same, first, last)
     ]
 
--- a header is rejected by its 4 bytes
+-- whether a header is rejected depends on its type and its length alone
 same_header : (stage : Stage) (bound : ℕ) (was now : List ℕ) (error : MessageError) → get_or now 0 0 ≡ get_or was 0 0
     → message_len now ≡ message_len was → RefusesHeader stage bound was error → RefusesHeader stage bound now error
 same_header stage bound was now (UnexpectedType type) first len r = search rules
@@ -73,14 +73,14 @@ refused_start stage bound n bytes error there inside refused =
     = sym (get_or_append_left (take n bytes) (drop n bytes) 0 0 (omega (arith, long))) ∙ ap (λ t. get_or t 0 0) (take-append-drop n bytes) in
     same_header stage bound bytes (take n bytes) error first (len_of_take n bytes there inside) refused
 
--- so is a whole message
+-- the reason why a whole message is rejected is the reason why the reader rejects the content
 pub refused_whole : (stage : Stage) (bound : ℕ) (part message rest : List ℕ) (error : MessageError) → IsMessage message
     → IsExpected stage bound message → RefusesMessage message rest error → Refuses stage bound part message rest error
 refused_whole stage bound part message rest KeyUpdateRequest whole expected refused = (whole, expected, refused)
 refused_whole stage bound part message rest DataAfterKeys whole expected refused = (whole, expected, refused)
 refused_whole stage bound part message rest error whole expected refused = absurd refused
 
--- a message may come if the bytes that it is the front of begin with a header that may
+-- a message may come if the stream that it begins has the header of a message that may come
 pub expected_front : (stage : Stage) (bound : ℕ) (bytes message rest : List ℕ) → IsMessage message → bytes ≡ message ++ rest
     → Begins stage bound bytes → IsExpected stage bound message
 expected_front stage bound bytes message rest whole joined begins =

@@ -1,4 +1,4 @@
--- The messages that an end may send in a row.
+-- The messages that an endpoint may send in a row.
 use Rattle.std.proofs.Common.{◌≡◌, ◌≢◌, ◌≤◌, ℕ, Bool, true, false, ◌&&◌, ◌||◌, ◌==◌, not, ◌++◌, List, [], ◌∷◌, length, take, drop, slice_index, ap, sym, refl, ◌∙◌, arith, rules}
 use Rattle.std.proofs.Math.Bool.{and_assoc, and-true}
 use Rattle.std.specs.List.{concat}
@@ -6,11 +6,11 @@ use Rattle.tls_messages.specs.Messages.{IsPart, may_send, may_send_all, message_
 use Rattle.tls_messages.specs.declared.stage.Stage.{Stage}
 use Rattle.tls_messages.proofs.StreamLemmas.{front, no_message, splits_of}
 
--- no bytes have no messages
+-- there is no message in no bytes
 none_of : (messages_of [] ≡ []) × (part_of [] ≡ [])
 none_of = no_message [] (λ there. absurd (omega (arith, there)))
 
--- whole messages are there if and only if bytes are
+-- a stream of whole messages that has no message has no bytes
 all_of : (stream : List ℕ) → part_of stream ≡ [] → messages_of stream ≡ [] → stream ≡ []
 all_of stream whole none = (splits_of stream).joined ∙ ap (λ m. concat m ++ part_of stream) none ∙ whole
 
@@ -22,7 +22,7 @@ next_of stage first [] false none some = absurd (some refl refl)
 next_of stage first (next ∷ later) true none some = absurd (search rules)
 next_of stage first (next ∷ later) false none some = refl
 
--- the message at the front of a stream decides with the rest of it
+-- all messages of a stream may be sent if and only if the first may and those after it may
 pub next_sent : (stage : Stage) (stream later messages : List ℕ) (n : ℕ) (may is_last : Bool) → n ≡ message_len stream → 4 ≤ n
     → n ≤ length stream → later ≡ drop n stream → (is_last ≡ true → later ≡ []) → (is_last ≡ false → later ≢ [])
     → part_of stream ≡ part_of messages
@@ -42,7 +42,7 @@ next_sent stage stream later messages n may is_last is there inside rest last mo
           ∙ ap (λ b. may && b) next ∙ sym (and_assoc may _ _),
     )
 
--- at the end of a stream all messages are there
+-- at the end of a stream all its messages were seen
 pub ends_sent : (stage : Stage) (stream messages : List ℕ) (may : Bool) → stream ≡ [] → part_of stream ≡ part_of messages
     → (part_of stream ≡ [] → may_send_all stage (messages_of messages) ≡ (may && may_send_all stage (messages_of stream)))
     → (part_of messages ≡ []) × (may ≡ may_send_all stage (messages_of messages))
@@ -52,7 +52,7 @@ ends_sent stage stream messages may none same all =
     = all whole ∙ ap (λ m. may && may_send_all stage m) (ap messages_of none ∙ none_of.0) in
     (sym same ∙ whole, sym (last ∙ and-true may))
 
--- a part of a message is no whole one
+-- a stream that is a part of a message has that part after its messages
 pub part_sent : (stream messages : List ℕ) → stream ≢ [] → IsPart stream
     → part_of stream ≡ part_of messages → part_of messages ≢ []
 part_sent stream messages some is same none = some (sym (no_message stream is).1 ∙ same ∙ none)

@@ -1,4 +1,4 @@
--- The messages of a stream, and that they don't depend on how it is cut.
+-- The messages of a stream, which don't depend on how it is cut.
 use Rattle.std.proofs.Common.{◌≡◌, ◌<◌, ◌≤◌, ◌+◌, ℕ, zero, suc, true, false, ◌++◌, List, [], ◌∷◌, length, take, drop, rules, arith, ap, subst, refl, ◌∙◌, sym, append_assoc, inl, inr}
 use Rattle.std.proofs.lemmas.Bool.{cases_lt, cond-true, cond-false}
 use Rattle.std.proofs.lemmas.Bool.Decides.{leb_tells}
@@ -60,7 +60,7 @@ pub of_splits : (stream : List ℕ) (messages : List (List ℕ)) (part : List �
 unfolding messages_of part_of
 of_splits stream messages part s = in_splits (length stream) stream messages part (omega arith) s
 
--- and each stream does
+-- each stream splits into whole messages and a part
 resplit : (stream : List ℕ) (ms ms' : List (List ℕ)) (p p' : List ℕ) → ms ≡ ms' → p ≡ p' → Splits stream ms p
     → Splits stream ms' p'
 resplit stream ms ms' p p' same same' s = subst (λ q. Splits stream ms' q) same' (subst (λ t. Splits stream t p) same s)
@@ -103,7 +103,7 @@ pub splits_of : (stream : List ℕ) → Splits stream (messages_of stream) (part
 unfolding messages_of part_of
 splits_of stream = splits_in (length stream) stream (omega arith)
 
--- a whole message comes first
+-- a whole message in front of a stream comes first among its messages
 pub first_message : (message rest : List ℕ) → IsMessage message
     → (messages_of (message ++ rest) ≡ message ∷ messages_of rest) × (part_of (message ++ rest) ≡ part_of rest)
 first_message message rest whole =
@@ -118,7 +118,7 @@ first_message message rest whole =
 pub no_message : (part : List ℕ) → IsPart part → (messages_of part ≡ []) × (part_of part ≡ part)
 no_message part is = of_splits part [] part (record { whole = All-nil IsMessage; rest = is; joined = refl })
 
--- whole messages are what they are the messages of
+-- the messages of joined whole messages are these messages
 pub messages_of_whole : (messages : List (List ℕ)) → All IsMessage messages → messages_of (concat messages) ≡ messages
 messages_of_whole messages whole = (of_splits (concat messages) messages [] (record {
   whole = whole;
@@ -126,7 +126,7 @@ messages_of_whole messages whole = (of_splits (concat messages) messages [] (rec
   joined = search rules;
 })).0
 
--- a cut anywhere leaves the messages
+-- a stream that is cut in two has the same messages
 pub cut : (xs ys : List ℕ)
     → (messages_of (xs ++ ys) ≡ messages_of xs ++ messages_of (part_of xs ++ ys)) × (part_of (xs ++ ys) ≡ part_of (part_of xs ++ ys))
 cut xs ys =
@@ -140,7 +140,7 @@ cut xs ys =
           ∙ ap (λ u. u ++ part_of (part_of xs ++ ys)) (sym (concat-append (messages_of xs) _));
     })
 
--- so any cutting reads the same
+-- a stream that is cut into any contents has the same messages
 pub read_cut : (part : List ℕ) (contents : List (List ℕ)) → IsPart part
     → messages_read part contents ≡ messages_of (part ++ concat contents)
 unfolding messages_read
@@ -156,14 +156,14 @@ pub cut_whole : (messages contents : List (List ℕ)) → All IsMessage messages
     → messages_read [] contents ≡ messages
 cut_whole messages contents whole same = cut_anywhere contents ∙ ap messages_of same ∙ messages_of_whole messages whole
 
--- a stream that ends in a part
+-- a stream that is a part of a message has no message and this part
 pub all_used : (stream part rest : List ℕ) → IsPart part → rest ≡ [] → stream ≡ part ++ rest
     → IsPart part × (rest ≡ []) × (messages_of stream ≡ []) × (part_of stream ≡ part)
 all_used stream part rest is none joined =
     let all : stream ≡ part = joined ∙ ap (λ t. part ++ t) none ∙ search rules in
     (is, none, ap messages_of all ∙ (no_message part is).0, ap part_of all ∙ (no_message part is).1)
 
--- the message at the front of a stream
+-- the first n bytes of a stream, if they are a whole message, come first among its messages
 pub front : (stream : List ℕ) (n : ℕ) → n ≡ message_len stream → 4 ≤ n → n ≤ length stream
     → (messages_of stream ≡ take n stream ∷ messages_of (drop n stream)) × (part_of stream ≡ part_of (drop n stream))
 front stream n is there inside =

@@ -6,23 +6,23 @@ use Rattle.tls_messages.specs.declared.stage.Stage.{Stage}
 use Rattle.tls_messages.specs.declared.stage.Stage.TheVariants.{AuthenticatingClient, AuthenticatingServer, Client, Handshake, Server}
 use Rattle.tls_messages.specs.declared.stage.Stage.TheVariants.{QuicClient, QuicHandshake, QuicServer}
 
--- the length of the message that begins with these 4 bytes: its type, the length of its body in 3 bytes, its body
+-- the length of the message that begins with these 4 bytes, which are its type and the length of its body in 3 bytes (section 4)
 abbrev pub message_len : List ℕ → ℕ
 message_len start = 4 + (65536 * slice_index start 1 + 256 * slice_index start 2 + slice_index start 3)
 
--- one whole message
+-- the bytes are one whole message
 pub record IsMessage (bytes : List ℕ) : Type 0 where
   pub header : 4 ≤ length bytes
   pub len : length bytes ≡ message_len bytes
 
--- the start of a message, which is not whole
+-- the bytes are the start of a message, and not a whole message
 abbrev pub IsPart : List ℕ → Type 0
 IsPart bytes = 4 ≤ length bytes → length bytes < message_len bytes
 
--- A message of this type may come at a stage: no KeyUpdate during the handshake (section 4.6.3), and after it NewSessionTicket
--- from a server, KeyUpdate from both, and with post-handshake authentication CertificateRequest from a server, and Certificate,
--- CertificateVerify and Finished from a client (section 4.6.2). In QUIC, there is no KeyUpdate (RFC 9001 section 6), no
--- EndOfEarlyData (section 8.3) and no post-handshake authentication (section 4.4)
+-- A message of this type may come at a stage. During the handshake, no KeyUpdate may come (section 4.6.3). After the handshake,
+-- NewSessionTicket may come from a server, and KeyUpdate from both. With post-handshake authentication, CertificateRequest may
+-- come from a server, and Certificate, CertificateVerify and Finished from a client (section 4.6.2). In QUIC, there is no
+-- KeyUpdate (RFC 9001 section 6), no EndOfEarlyData (section 8.3) and no post-handshake authentication (section 4.4).
 abbrev pub may_come : Stage → ℕ → Bool
 may_come Handshake type = not (type == 24)
 may_come Client type = type == 4 || type == 24
@@ -33,29 +33,30 @@ may_come QuicHandshake type = not (type == 24) && not (type == 5)
 may_come QuicClient type = type == 4
 may_come QuicServer type = false
 
--- A message of this type may be sent in a record after the handshake: NewSessionTicket from a server (section 4.6.1), and with
--- post-handshake authentication CertificateRequest from a server, and Certificate, CertificateVerify and Finished from a client
--- (section 4.6.2). A KeyUpdate, after which the keys change (section 4.6.3), is sent by itself; QUIC has no records
+-- A message of this type may be sent in a record after the handshake. A server may send NewSessionTicket (section 4.6.1). With
+-- post-handshake authentication, a server may send CertificateRequest, and a client Certificate, CertificateVerify and Finished
+-- (section 4.6.2). A KeyUpdate, after which the keys change (section 4.6.3), is sent by itself, and QUIC has no records.
 abbrev pub may_send : Stage → ℕ → Bool
 may_send Server type = type == 4
 may_send AuthenticatingServer type = type == 4 || type == 13
 may_send AuthenticatingClient type = type == 11 || type == 15 || type == 20
 may_send stage type = false
 
--- these messages may be sent in a row. A Finished, which ends its record (section 5.1), is the last
+-- each of these messages may be sent, and no message follows a Finished, which ends its record (section 5.1)
 abbrev pub may_send_all : Stage → List (List ℕ) → Bool
 may_send_all stage [] = true
 may_send_all stage (last ∷ []) = may_send stage (slice_index last 0)
 may_send_all stage (first ∷ next ∷ later) =
     may_send stage (slice_index first 0) && not (slice_index first 0 == 20) && may_send_all stage (next ∷ later)
 
--- the header of a message that may come, with a KeyUpdate's body of one byte (section 4.6.3), and no longer than the bound
+-- the message that begins with these bytes may come, has a body of one byte if it is a KeyUpdate (section 4.6.3), and is no
+-- longer than the bound
 pub record IsExpected (stage : Stage) (bound : ℕ) (bytes : List ℕ) : Type 0 where
   pub type : IsTrue (may_come stage (slice_index bytes 0))
   pub update : slice_index bytes 0 ≡ 24 → message_len bytes ≡ 5
   pub fits : message_len bytes ≤ bound
 
--- such a header begins here, as far as it is there
+-- if the bytes have a whole header, it is that of a message that may come
 abbrev pub Begins : Stage → ℕ → List ℕ → Type 0
 Begins stage bound bytes = 4 ≤ length bytes → IsExpected stage bound bytes
 
@@ -75,25 +76,26 @@ messages_in zero stream = []
 messages_in (suc n) stream = cond (begins_whole stream)
     (take (message_len stream) stream ∷ messages_in n (drop (message_len stream) stream)) []
 
--- what comes after them
+-- what comes after the whole messages at the front of a stream, of which at most n are taken
 unfoldable pub part_in : (n : ℕ) → List ℕ → List ℕ
 part_in zero stream = stream
 part_in (suc n) stream = cond (begins_whole stream) (part_in n (drop (message_len stream) stream)) stream
 
--- the whole messages of a stream, in order, and the part of a message after them
+-- the whole messages of a stream, in order
 unfoldable pub messages_of : List ℕ → List (List ℕ)
 messages_of stream = messages_in (length stream) stream
 
+-- the part of a message after the whole messages of a stream
 unfoldable pub part_of : List ℕ → List ℕ
 part_of stream = part_in (length stream) stream
 
--- the messages of the contents of records, where `part` is left of those before
+-- the messages of the contents of records, if the records before them ended in `part` of a message
 unfoldable pub messages_read : (part : List ℕ) → (contents : List (List ℕ)) → List (List ℕ)
 messages_read part [] = []
 messages_read part (content ∷ later) = messages_of (part ++ content) ++ messages_read (part_of (part ++ content)) later
 
--- a reader: the message that it gives, which is empty if it gives none, the part of a message that it keeps, the most bytes that
--- a message may have, which messages may come, and whether it has rejected one
+-- a reader: the message that it has found, or no bytes if it has found none, the part of a message that it keeps, the most bytes
+-- that a message may have, the stage, which decides which messages may come, and whether it has rejected a message
 pub record Joining : Type 0 where
   pub message : List ℕ
   pub part : List ℕ
@@ -101,16 +103,16 @@ pub record Joining : Type 0 where
   pub stage : Stage
   pub is_closed : Bool
 
--- the keys may change after a message of this type: ClientHello, ServerHello, EndOfEarlyData, Finished, KeyUpdate. A sender ends
--- the record with it in any case (section 5.1)
+-- The keys may change after a message of this type: ClientHello, ServerHello, EndOfEarlyData, Finished or KeyUpdate. A sender
+-- ends the record with such a message in any case (section 5.1).
 abbrev pub changes_keys : ℕ → Bool
 changes_keys type = type == 1 || type == 2 || type == 5 || type == 20 || type == 24
 
 abbrev pub ChangesKeys : List ℕ → Type 0
 ChangesKeys message = IsTrue (changes_keys (slice_index message 0))
 
--- a whole message, which `rest` follows in its record: the byte of a KeyUpdate is 0 or 1 (section 4.6.3), and nothing follows a
--- message that changes keys (section 5.1)
+-- A whole message, which `rest` follows in its record, is taken: the byte of a KeyUpdate is 0 or 1 (section 4.6.3), and nothing
+-- follows a message that changes keys (section 5.1).
 pub record IsTaken (message rest : List ℕ) : Type 0 where
   pub request : slice_index message 0 ≡ 24 → slice_index message 4 ≤ 1
   pub aligned : ChangesKeys message → rest ≡ []

@@ -1,4 +1,4 @@
--- One call of a reader, and the alert and the code that an error calls for.
+-- What one call of a reader does, and the alert and the code in QUIC that an error calls for.
 use Rattle.std.specs.Prelude.{◌≡◌, ◌≢◌, ◌+◌, ◌^◌, ◌<◌, ◌≤◌, ◌==◌, ◌++◌, max, cond, length, List, [], ℕ, Option, Some, None, Result, Ok, Err}
 use Rattle.std.specs.Prelude.{IsFalse, IsTrue, slice_index}
 use Rattle.std.specs.Borrow.{Bor}
@@ -19,7 +19,7 @@ use Rattle.tls_messages.specs.declared.message_error.MessageError.TheVariants.{C
 use Rattle.tls_messages.specs.declared.message_error.MessageError.TheVariants.{KeyUpdateRequest, TooLong, UnexpectedType}
 use Rattle.tls_messages.specs.declared.stage.Stage.{Stage}
 
--- the alert that ends the connection (sections 4.6.2, 4.6.3, 5.1 and 6.2)
+-- the alert that an error calls for (RFC 8446 sections 4.6.2, 4.6.3, 5.1 and 6.2)
 abbrev pub alert_of : MessageError → Option AlertDescription
 alert_of (TooLong len) = Some InternalError
 alert_of (UnexpectedType type) = Some UnexpectedMessage
@@ -29,7 +29,7 @@ alert_of DataAfterKeys = Some UnexpectedMessage
 alert_of Interrupted = Some UnexpectedMessage
 alert_of Closed = None
 
--- the value of an error alert (section 6)
+-- the value of an error alert (RFC 8446 section 6)
 abbrev pub alert_code : AlertDescription → ℕ
 alert_code UnexpectedMessage = 10
 alert_code BadRecordMac = 20
@@ -57,20 +57,21 @@ alert_code UnknownPskIdentity = 115
 alert_code CertificateRequired = 116
 alert_code NoApplicationProtocol = 120
 
--- the codes of QUIC: PROTOCOL_VIOLATION and CRYPTO_BUFFER_EXCEEDED (RFC 9000 section 20.1), and CRYPTO_ERROR with an alert
--- (RFC 9001 section 4.8)
+-- PROTOCOL_VIOLATION (RFC 9000 section 20.1)
 abbrev pub protocol_violation : ℕ
 protocol_violation = 10
 
+-- CRYPTO_BUFFER_EXCEEDED (RFC 9000 section 20.1)
 abbrev pub crypto_buffer_exceeded : ℕ
 crypto_buffer_exceeded = 13
 
+-- CRYPTO_ERROR with the value of an alert (RFC 9001 section 4.8)
 abbrev pub crypto_error : AlertDescription → ℕ
 crypto_error alert = 2 ^ 8 + alert_code alert
 
--- the code that closes a connection of QUIC: bytes of a message after a change of keys (RFC 9001 section 4.1.3) and a
--- CertificateRequest after the handshake, whose type is 13 (section 4.4), are no error of TLS, and a message that is longer than the
--- buffer has a code of its own (RFC 9000 section 7.5)
+-- The code that closes a connection of QUIC. Bytes of a message after a change of keys (RFC 9001 section 4.1.3) and a
+-- CertificateRequest after the handshake, whose type is 13 (section 4.4), are not errors of TLS. A message that is longer than
+-- the buffer has a code of its own (RFC 9000 section 7.5).
 abbrev pub quic_code_of : MessageError → Option ℕ
 quic_code_of (TooLong len) = Some crypto_buffer_exceeded
 quic_code_of (UnexpectedType type) = Some (cond (type == 13) protocol_violation (crypto_error UnexpectedMessage))
@@ -80,7 +81,7 @@ quic_code_of DataAfterKeys = Some protocol_violation
 quic_code_of Interrupted = Some (crypto_error UnexpectedMessage)
 quic_code_of Closed = None
 
--- why a header is rejected
+-- the error is the reason why the header of a message is rejected
 abbrev pub RefusesHeader : Stage → (bound : ℕ) → List ℕ → MessageError → Type 0
 RefusesHeader stage bound start (UnexpectedType type) =
     (type ≡ slice_index start 0) × IsFalse (may_come stage (slice_index start 0))
@@ -91,15 +92,16 @@ RefusesHeader stage bound start (TooLong len) =
     × (len ≡ message_len start) × (bound < len)
 RefusesHeader stage bound start error = ⊥
 
--- why a whole message is rejected, which `rest` follows in its record
+-- the error is the reason why a whole message is rejected, which `rest` follows in its record
 abbrev pub RefusesMessage : (message rest : List ℕ) → MessageError → Type 0
 RefusesMessage message rest KeyUpdateRequest = (slice_index message 0 ≡ 24) × (1 < slice_index message 4)
 RefusesMessage message rest DataAfterKeys =
     (slice_index message 0 ≡ 24 → slice_index message 4 ≤ 1) × ChangesKeys message × (rest ≢ [])
 RefusesMessage message rest error = ⊥
 
--- Why a reader rejects a content after this part, whose first bytes it keeps with the part, before `rest`: the header of a message,
--- for which it takes nothing beyond the 4 bytes of the header, or a whole message that may come
+-- The error is the reason why a reader rejects a content. `kept` is the part that the reader had and what it has taken of the
+-- content, and `rest` is the rest of the content. The reason is a whole message that may come, or a header, for which the reader
+-- takes nothing beyond the 4 bytes of the header.
 abbrev pub Refuses : Stage → (bound : ℕ) → (part kept rest : List ℕ) → MessageError → Type 0
 Refuses stage bound part kept rest KeyUpdateRequest =
     IsMessage kept × IsExpected stage bound kept × RefusesMessage kept rest KeyUpdateRequest
@@ -107,12 +109,14 @@ Refuses stage bound part kept rest DataAfterKeys =
     IsMessage kept × IsExpected stage bound kept × RefusesMessage kept rest DataAfterKeys
 Refuses stage bound part kept rest error = (length kept ≡ max 4 (length part)) × RefusesHeader stage bound kept error
 
--- neither the bound changes nor which messages may come
+-- the bound and the stage stay the same
 abbrev pub KeepsRules : Joining → Joining → Type 0
 KeepsRules was now = (now.bound ≡ was.bound) × (now.stage ≡ was.stage)
 
--- what a call leaves of a reader: after a message nothing, and at the end of the content the part that it ends in
-abbrev pub Leaves : Joining → (content : List ℕ) → Result (Option (Bor (List ℕ))) MessageError → (rest : List ℕ) → Joining → Type 0
+-- What a call leaves in a reader: no part after a message, and at the end of the content the part of a message that the content
+-- ends in.
+abbrev pub Leaves : Joining → (content : List ℕ) → Result (Option (Bor (List ℕ))) MessageError → (rest : List ℕ) → Joining
+    → Type 0
 Leaves was content (Ok (Some message)) rest now =
     KeepsRules was now × IsFalse now.is_closed × (now.part ≡ [])
 Leaves was content (Ok None) rest now =

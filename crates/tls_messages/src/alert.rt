@@ -1,7 +1,7 @@
-//! Alerts.
+//! The error alerts of TLS 1.3, with their values (RFC 8446 section 6.2).
 
 /// An error alert of RFC 8446 section 6.2, which an endpoint sends before it closes the connection. `as u8` gives its value. The
-/// other two alerts of section 6, close_notify and user_canceled, are no errors (section 6.1).
+/// remaining two alerts of section 6, close_notify and user_canceled, are not errors (section 6.1).
 #[derive(Clone, Copy, Debug, PartialEq, Eq)]
 pub enum AlertDescription {
     /// `unexpected_message`

@@ -14,7 +14,7 @@ pub use message_error::MessageError;
 pub use message_reader::MessageReader;
 pub use stage::Stage;
 
-/// The length in bytes of what a message begins with: its type, and the length of its body.
+/// The length of a message's header in bytes: the type of the message, and the length of its body (RFC 8446 section 4).
 pub const MESSAGE_HEADER_LEN: usize = 4;
 
 /// The length of a KeyUpdate in bytes, including its header (RFC 8446 section 4.6.3).

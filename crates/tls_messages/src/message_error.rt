@@ -1,4 +1,4 @@
-//! The error of joining messages.
+//! The errors of joining messages, with the alert or the code in QUIC that each calls for.
 
 ghost use Rattle.std.specs.Prelude.{◌≡◌};
 ghost use Rattle.tls_messages.specs.Steps.{alert_of, crypto_error, quic_code_of};
@@ -7,22 +7,23 @@ use crate::alert::AlertDescription;
 use crate::message_type::CERTIFICATE_REQUEST;
 use thiserror::Error;
 
-/// An error of the protocol that is no error of TLS (RFC 9000 section 20.1).
+/// The code PROTOCOL_VIOLATION, for an error that no other code describes (RFC 9000 section 20.1).
 const PROTOCOL_VIOLATION: u64 = 0x0a;
 
-/// More bytes of a message than the end keeps (RFC 9000 section 7.5).
+/// The code CRYPTO_BUFFER_EXCEEDED, for more bytes of a message than an endpoint can buffer (RFC 9000 section 7.5).
 const CRYPTO_BUFFER_EXCEEDED: u64 = 0x0d;
 
-/// The first of the codes for the alerts of TLS (RFC 9001 section 4.8).
+/// The code CRYPTO_ERROR, to which the value of an alert is added (RFC 9001 section 4.8).
 const CRYPTO_ERROR: u64 = 0x0100;
 
-/// The error of joining messages. Each but `Closed` ends the connection.
+/// The error of joining messages. Each error but `Closed` ends the connection.
 #[derive(Clone, Copy, Debug, PartialEq, Eq, Drop, Error)]
 pub enum MessageError {
     /// A message has more bytes than the reader's buffer: this many.
     #[error("a handshake message of {0} bytes is longer than the buffer")]
     TooLong(usize),
-    /// A message of this type may not come at this stage (RFC 8446 sections 4.6.2 and 4.6.3, RFC 9001 sections 4.4, 6 and 8.3).
+    /// A message of this type may not come at the reader's stage (RFC 8446 sections 4.6.2 and 4.6.3, RFC 9001 sections 4.4, 6
+    /// and 8.3).
     #[error("a handshake message of type {0} is not expected")]
     UnexpectedType(u8),
     /// The body of a KeyUpdate does not have one byte (RFC 8446 section 4.6.3).
@@ -59,10 +60,10 @@ impl MessageError {
         }
     }
 
-    /// Returns the code of the error with which a connection of QUIC is closed, or `None` for `Closed`. It is
+    /// Returns the error code with which a connection of QUIC is closed, or `None` for `Closed`. It is
     /// CRYPTO_BUFFER_EXCEEDED for `TooLong` (RFC 9000 section 7.5), PROTOCOL_VIOLATION for `DataAfterKeys` (RFC 9001 section
-    /// 4.1.3) and for `UnexpectedType` of a CertificateRequest (section 4.4), and for the others CRYPTO_ERROR with the alert
-    /// (section 4.8).
+    /// 4.1.3) and for `UnexpectedType` of a CertificateRequest (section 4.4), and CRYPTO_ERROR with the alert for each other
+    /// error (section 4.8).
     pub fn quic_code(self) -> Option<u64>
         ensures { result ≡ quic_code_of self }
     {
@@ -83,7 +84,7 @@ impl MessageError {
     }
 }
 
-/// The code for an alert (RFC 9001 section 4.8).
+/// Returns the code for an alert (RFC 9001 section 4.8).
 fn crypto_error(alert: AlertDescription) -> u64
     ensures { result ≡ crypto_error alert }
 {

@@ -1,4 +1,4 @@
-//! Joining messages.
+//! Joining handshake messages from the contents of the records that they are cut into (RFC 8446 section 5.1).
 
 ghost use Rattle.std.specs.Prelude.{◌≡◌, ◌↔◌, ◌+◌, ◌<◌, ◌≤◌, ◌++◌, ◌∷◌, [], length, take, false, IsOk, IfOk, IfErr, IfSome, IsErrOf, IsTrue, IsFalse, IsErr, OnErr, OnOk, IsOkUnless, List, None, max, slice_index, true, ℕ, ◌≢◌, ⊤};
 ghost use Rattle.std.specs.Borrow.{sem, follows_so};
@@ -14,11 +14,12 @@ use crate::stage::Stage;
 use crate::{KEY_UPDATE_LEN, MESSAGE_HEADER_LEN};
 use std::marker::Model;
 
-/// Joins the handshake messages that records carry. A message may be cut over records, and share one with others (RFC 8446
-/// section 5.1).
+/// Joins the handshake messages that records carry. A message may be cut over several records, and a record may have several
+/// messages (RFC 8446 section 5.1).
 ///
-/// The reader keeps the part of a message that a record ends in. The caller lends it a buffer, whose length is the most bytes
-/// that a message may have. An error ends the connection and closes the reader: every later call returns `Closed`.
+/// If a record ends within a message, the reader keeps the part of the message. The caller lends it a buffer, whose length is
+/// the most bytes that a message may have. An error ends the connection and closes the reader: every later call that can fail
+/// returns `Closed`.
 ///
 /// # Examples
 ///
@@ -58,7 +59,7 @@ impl<'b> Model for MessageReader<'b> {
 }
 
 impl<'b> MessageReader<'b> {
-    /// Creates a reader of messages that have at most as many bytes as the buffer.
+    /// Creates a reader that takes messages of at most as many bytes as the buffer has.
     pub fn new(buffer: &'b mut [u8], stage: Stage) -> Self
         requires { MESSAGE_HEADER_LEN ≤ length buffer.old }
         ensures { result ≡ record {
@@ -78,21 +79,38 @@ impl<'b> MessageReader<'b> {
         }
     }
 
-    /// Continues at another stage, as after the Finished of the peer.
+    /// Sets the stage, which decides which messages may come from now on, also if a message is cut. The stage changes with the
+    /// peer's Finished, for example.
+    ///
+    /// # Examples
+    ///
+    /// Takes the next message of a server's handshake, and continues after the handshake if it is the Finished.
+    /// From `crates/records_tests/src/tests/examples/handshake_messages.rt`:
+    ///
+    /// ```
+    /// let Some(message) = messages.next(content)? else {
+    ///     return Ok(false);
+    /// };
+    /// if message[0] != FINISHED {
+    ///     return Ok(false);
+    /// }
+    /// messages.set_stage(Stage::Client);
+    /// Ok(true)
+    /// ```
     pub fn set_stage(&mut self, stage: Stage)
         ensures { self.new ≡ record self.old { stage = stage } }
     {
         self.stage = stage;
     }
 
-    /// Returns its `Stage`, which decides the messages that it takes.
+    /// Returns the stage, which decides which messages may come.
     pub fn stage(&self) -> Stage
         ensures { result ≡ self.now.stage }
     {
         self.stage
     }
 
-    /// Returns whether a message is cut: more of it is to come.
+    /// Returns whether a message is cut: the reader has a part of it, and the rest is to come.
     pub fn is_cut(&self) -> bool
         ensures { IsFalse result ↔ (self.now.part ≡ []) }
     {
@@ -106,8 +124,9 @@ impl<'b> MessageReader<'b> {
         self.is_closed
     }
 
-    /// Admits a record that is not a handshake record: no message may be cut (RFC 8446 section 5.1). An alert is such a record,
-    /// and a ChangeCipherSpec that is dropped (section 5) is none.
+    /// Admits a record that is not a handshake record, unless a message is cut: no record of another type may come between its
+    /// parts (RFC 8446 section 5.1). The caller calls this for each such record, also for an alert, but not for a
+    /// ChangeCipherSpec that it drops (section 5).
     ///
     /// Fails with `Interrupted` if a message is cut, which closes the reader.
     pub fn admit_other_record(&mut self) -> Result<(), MessageError>
@@ -128,9 +147,9 @@ impl<'b> MessageReader<'b> {
         Ok(())
     }
 
-    /// Returns the next message, with its type and its length, and takes its last bytes off the front of the content. Returns
-    /// `None` if the content ends before a message does. It is then used up, and the content of the next handshake record
-    /// continues.
+    /// Returns the next message, including its header, and takes its last bytes off the front of the content. Returns `None` if
+    /// the content ends before the message does. The content is then used up, and the caller continues with the content of the
+    /// next handshake record.
     ///
     /// As soon as the type and the length of a message are there, fails with `UnexpectedType` if a message of this type may not
     /// come (RFC 8446 sections 4.6.2 and 4.6.3, RFC 9001 sections 4.4, 6 and 8.3), with `KeyUpdateLength` if it is a KeyUpdate of
@@ -138,7 +157,8 @@ impl<'b> MessageReader<'b> {
     /// is a KeyUpdate whose byte is neither 0 nor 1, and with `DataAfterKeys` if the content continues after a ClientHello,
     /// ServerHello, EndOfEarlyData, Finished or KeyUpdate.
     pub fn next<'s>(&'s mut self, content: &mut &[u8]) -> Result<Option<&'s [u8]>, MessageError>
-        ensures* leaves { sem 𝓛 (follows_so (the_row (record { mir = named 1; lft = [] })) (the_row (record { mir = named 1; lft = [] }))
+        ensures* leaves { sem 𝓛 (follows_so (the_row (record { mir = named 1; lft = [] }))
+            (the_row (record { mir = named 1; lft = [] }))
             self.entry.ghost_name none (λ _ _. ⊤)
             (λ now. Leaves self.old content.old.now result content.new.now now)) }
         ensures found { IfOk result (λ found. IfSome found (λ message. IsMessage message.now
@@ -159,7 +179,7 @@ impl<'b> MessageReader<'b> {
         Ok(Some(self.message()))
     }
 
-    /// Moves bytes from the front of the content to the message that the reader is at, and returns whether it is whole.
+    /// Moves bytes from the front of the content to the message that the reader is at, and returns whether the message is whole.
     fn advance(&mut self, content: &mut &[u8]) -> Result<bool, MessageError>
         ensures rules { (self.new.bound ≡ self.old.bound) × (self.new.stage ≡ self.old.stage) }
         ensures joined { IfErr result (λ error. IsFalse self.old.is_closed
@@ -195,7 +215,7 @@ impl<'b> MessageReader<'b> {
         Ok(self.is_whole)
     }
 
-    /// The message that was found last, or nothing if none was.
+    /// Returns the message that was found last, or an empty slice if none was.
     fn message(&self) -> &[u8]
         ensures { result.now ≡ self.now.message }
     {
@@ -207,8 +227,8 @@ impl<'b> MessageReader<'b> {
     }
 }
 
-/// Moves bytes from the front of the content into the buffer, which has `filled` bytes of a message, until it is whole, and
-/// checks it then.
+/// Moves bytes from the front of the content into the buffer, which has `filled` bytes of a message, until the message is whole,
+/// and then checks the message. Returns whether it is whole.
 fn next_message(
     stage: Stage,
     buffer: &mut [u8],
@@ -241,7 +261,7 @@ fn next_message(
     Ok(is_whole)
 }
 
-/// Checks a whole message, and that the record ends with it if it changes keys.
+/// Checks the byte of a KeyUpdate, and that a message that changes keys is the last of its record.
 fn check_whole(message: &[u8], is_last: bool) -> Result<(), MessageError>
     requires { IsMessage message.now × (slice_index message.now 0 ≡ 24 → message_len message.now ≡ 5) }
     ensures accepted { IsOk result ↔ ((slice_index message.now 0 ≡ 24 → slice_index message.now 4 ≤ 1)
@@ -258,7 +278,8 @@ fn check_whole(message: &[u8], is_last: bool) -> Result<(), MessageError>
     Ok(())
 }
 
-/// Moves bytes from the front of the content into the buffer, which has `filled` bytes of a message, until it is whole.
+/// Moves bytes from the front of the content into the buffer, which has `filled` bytes of a message, until the message is whole.
+/// Returns whether it is whole.
 fn join(
     stage: Stage,
     buffer: &mut [u8],
@@ -292,7 +313,7 @@ fn join(
     Ok(*filled == len)
 }
 
-/// The length of the message that begins with these bytes, if it may come and is no longer than they are.
+/// Returns the length of the message that begins with these bytes, if it may come and is no longer than they are.
 fn expected_len(stage: Stage, start: &[u8]) -> Result<usize, MessageError>
     requires { 4 ≤ length start.now }
     ensures accepted { IsOk result ↔ IsExpected stage (length start.now) start.now }
@@ -327,7 +348,7 @@ fn fill(buffer: &mut [u8], at: usize, end: usize, content: &mut &[u8]) -> usize
     count
 }
 
-/// The length of the message that begins with these bytes.
+/// Returns the length of the message that begins with these bytes, including its header.
 pub(crate) fn message_len(start: &[u8]) -> usize
     requires { 4 ≤ length start.now }
     ensures { result ≡ message_len start.now }

@@ -1,4 +1,4 @@
-//! The stages of a connection.
+//! The handshake messages that an endpoint may receive and send at each stage of a connection (RFC 8446 section 4.6).
 
 ghost use Rattle.std.specs.Prelude.{◌≡◌, ◌↔◌, ◌≤◌, ◌&&◌, ◌||◌, ◌==◌, not, [], length, IfNone, IfSome, IsSome};
 ghost use Rattle.tls_messages.specs.Messages.{may_come, may_send, may_send_all, messages_of, part_of, IsPart, message_len as message_len_of};
@@ -10,12 +10,12 @@ use crate::message_type::{
     NEW_SESSION_TICKET,
 };
 
-/// A stage of a connection at one end, which decides on the messages that the end may receive. Those whose names begin with
-/// `Quic` are for the CRYPTO frames of QUIC.
+/// A stage of a connection at one endpoint, which decides which messages the endpoint may receive. The stages whose names begin
+/// with `Quic` are for the CRYPTO frames of QUIC.
 #[derive(Clone, Copy, Debug, PartialEq, Eq)]
 pub enum Stage {
-    /// The handshake: every message but a KeyUpdate, which must not precede the Finished (RFC 8446 section 4.6.3). In which
-    /// order the messages of the handshake come is the caller's responsibility.
+    /// The handshake: every message but a KeyUpdate, which must not precede the Finished (RFC 8446 section 4.6.3). The caller
+    /// checks the order of the handshake's messages.
     Handshake,
     /// After the handshake, at a client: NewSessionTicket and KeyUpdate (section 4.6).
     Client,
@@ -36,7 +36,7 @@ pub enum Stage {
 }
 
 impl Stage {
-    /// Returns whether a message of this type may come.
+    /// Returns whether the endpoint may receive a message of this type.
     pub fn allows(self, message_type: u8) -> bool
         ensures { result ≡ may_come self message_type }
     {
@@ -62,10 +62,13 @@ impl Stage {
             Stage::QuicServer => false,
         }
     }
-    /// Returns whether the end may send a message of this type in a record after the handshake: a server NewSessionTicket (RFC
-    /// 8446 section 4.6.1) and, if it asks for post-handshake authentication, CertificateRequest, and a client that offered it
-    /// Certificate, CertificateVerify and Finished (section 4.6.2). No KeyUpdate is among them, since the keys change after it
-    /// (section 4.6.3), and there are none at the other stages.
+
+    /// Returns whether the endpoint may send a message of this type in a record after the handshake.
+    ///
+    /// A server may send NewSessionTicket (RFC 8446 section 4.6.1) and, if it asks for post-handshake authentication,
+    /// CertificateRequest. A client that offered post-handshake authentication may send Certificate, CertificateVerify and
+    /// Finished (section 4.6.2). At the other stages no message may be sent. A KeyUpdate may never be sent in this way, since the
+    /// keys change after it (section 4.6.3).
     pub fn may_send(self, message_type: u8) -> bool
         ensures { result ≡ may_send self message_type }
     {
@@ -86,8 +89,10 @@ impl Stage {
             | Stage::QuicServer => false,
         }
     }
-    /// Returns whether the end may send these messages in a row in records after the handshake, or `None` if they are not whole
-    /// messages. It may if it may send each, and if none follows a Finished, which ends its record (RFC 8446 section 5.1).
+
+    /// Returns whether the endpoint may send these messages in a row in records after the handshake, or `None` if they are not
+    /// whole messages. It may if it may send each of them, and if no message follows a Finished, which ends its record (RFC 8446
+    /// section 5.1).
     pub fn may_send_all(self, messages: &[u8]) -> Option<bool>
         ensures whole { IsSome result ↔ (part_of messages.now ≡ []) }
         ensures all { IfSome result (λ may_send. may_send ≡ may_send_all self (messages_of messages.now)) }
@@ -102,7 +107,7 @@ impl Stage {
         Some(may_send)
     }
 
-    /// Whether the end may send a message of this type, which is the last of those in a row or not.
+    /// Returns whether the endpoint may send a message of this type in a row of messages, of which it is the last if `is_last`.
     fn may_send_next(self, message_type: u8, is_last: bool) -> bool
         ensures { result ≡ (may_send self message_type && (is_last || not (message_type == 20))) }
     {
@@ -110,7 +115,7 @@ impl Stage {
     }
 }
 
-/// The length of the whole message that these bytes begin with, if there is one.
+/// Returns the length of the whole message that these bytes begin with, or `None` if they don't begin with one.
 fn whole_len(bytes: &[u8]) -> Option<usize>
     ensures some { IfSome result (λ n. (n ≡ message_len_of bytes.now) × (4 ≤ n) × (n ≤ length bytes.now)) }
     ensures none { IfNone result (IsPart bytes.now) }

@@ -1,3 +1,4 @@
-//! An example caller, whose contracts are proved from the contracts of the library alone.
+//! Example callers, whose contracts are proved from the contracts of the libraries alone.
 
+pub mod handshake_messages;
 pub mod record_stream;

@@ -3,6 +3,7 @@
 use crate::tests::captured::CAPTURED;
 use crate::tests::checks::{displays, equal, holds, same};
 use crate::tests::connection::{Carried, Direction, bytes_of};
+use crate::tests::examples::handshake_messages::take_finished;
 use records::{Begins, RecordKind, classify};
 use std::alloc::Global;
 use std::process::Abort;
@@ -146,6 +147,76 @@ fn messages_by_stage(rt: HostRuntime) {
         equal(&rt, (contents, found), (contents, *expected), "messages");
         equal(&rt, again, expected.err().map(|_| Err(Closed)), "closed");
     }
+}
+
+/// A stage and a content, then another stage and a content, and how many messages the second content ends or why it is rejected.
+/// The peer's Finished ends the handshake; only after it may a KeyUpdate (RFC 8446 section 4.6.3) and, from a server, a
+/// NewSessionTicket come (section 4.6.1). The type of a cut message is judged when its header is whole.
+const STAGES: [(Stage, &[u8], Stage, &[u8], Result<usize, MessageError>); 7] = [
+    (
+        Handshake,
+        &[20, 0, 0, 1, 9],
+        Client,
+        &[24, 0, 0, 1, 0],
+        Ok(1),
+    ),
+    (Handshake, &[20, 0, 0, 1, 9], Client, &[4, 0, 0, 0], Ok(1)),
+    (
+        Handshake,
+        &[20, 0, 0, 1, 9],
+        Client,
+        &[20, 0, 0, 1, 9],
+        Err(UnexpectedType(20)),
+    ),
+    (
+        Handshake,
+        &[20, 0, 0, 1, 9],
+        Server,
+        &[4, 0, 0, 0],
+        Err(UnexpectedType(4)),
+    ),
+    (Handshake, &[24, 0, 0], Client, &[1, 0], Ok(1)),
+    (
+        Client,
+        &[24, 0, 0],
+        Handshake,
+        &[1, 0],
+        Err(UnexpectedType(24)),
+    ),
+    (
+        Handshake,
+        &[24, 0, 0, 1, 0],
+        Client,
+        &[24, 0, 0, 1, 0],
+        Err(Closed),
+    ),
+];
+
+#[test]
+fn another_stage(rt: HostRuntime) {
+    for (first, before, second, after, expected) in &STAGES {
+        let mut buffer = [0; 16];
+        let mut messages = MessageReader::new(&mut buffer, *first);
+        let _ = count(&mut messages, rt.alloc(), &[*before]);
+        messages.set_stage(*second);
+        equal(&rt, messages.stage(), *second, "the stage");
+        let found = count(&mut messages, rt.alloc(), &[*after]);
+        equal(&rt, (after, found), (after, *expected), "messages");
+    }
+}
+
+#[test]
+fn the_finished_ends_the_handshake(rt: HostRuntime) -> Result<(), MessageError> {
+    let mut buffer = [0; 16];
+    let mut messages = MessageReader::new(&mut buffer, Handshake);
+    let mut content: &[u8] = &[8, 0, 0, 0, 20, 0, 0, 1, 9];
+    let first = take_finished(&mut messages, &mut content)?;
+    holds(&rt, !first, "EncryptedExtensions");
+    equal(&rt, messages.stage(), Handshake, "the handshake");
+    let second = take_finished(&mut messages, &mut content)?;
+    holds(&rt, second, "a Finished");
+    equal(&rt, messages.stage(), Client, "after the handshake");
+    Ok(())
 }
 
 #[test]
