@@ -1,4 +1,4 @@
--- What one end of a connection receives and sends.
+-- What one end of a connection receives, record by record and message by message, and what it sends.
 use Rattle.std.proofs.Common.{◌≡◌, ◌≤◌, ◌+◌, ℕ, min, List, [], ◌∷◌, ◌++◌, length, take, drop, ◌-◌, ap, sym, subst, ◌∙◌, refl, arith, drop-drop, length-drop, append_assoc, inl, inr, Ok}
 use Rattle.std.proofs.lemmas.List.{length-take, take-take, take_rest}
 use Rattle.std.proofs.lemmas.Slice.{between-put_mid, drop-put_mid}
@@ -43,7 +43,7 @@ pub leaves_ok : (was now : Joining) (content rest : List ℕ) (found : Option (B
     → result ≡ Ok found → Leaves was content result rest now → Leaves was content (Ok found) rest now
 leaves_ok was now content rest found result same leaves = subst (λ r. Leaves was content r rest now) same leaves
 
--- one message more
+-- one further message
 module _ (stage : Stage) (bound : ℕ) (part content left rest message later kept : List ℕ) (first was : Handled) (joining : Joining)
     (same_stage : joining.stage ≡ stage) (same_bound : joining.bound ≡ bound)
     (handles : Handles stage bound part content first left rest was) (whole : IsMessage message)
@@ -80,7 +80,7 @@ module _ (stage : Stage) (bound : ℕ) (part content left rest message later kep
   rejects_handling TooManyKeyUpdates none refused = (none, fails_to_handle TooManyKeyUpdates refused)
   rejects_handling error none refused = absurd refused
 
--- no message more
+-- no further message
 pub handles_all : (stage : Stage) (bound : ℕ) (part content left rest kept : List ℕ) (first now : Handled) (joining : Joining)
     → joining.stage ≡ stage → joining.bound ≡ bound → Handles stage bound part content first left rest now
     → messages_of (left ++ rest) ≡ [] → kept ≡ part_of (left ++ rest) → Begins joining.stage joining.bound (left ++ rest)
@@ -97,7 +97,7 @@ handles_all stage bound part content left rest kept first now joining same_stage
       begins = rw same (rw (same_stage, same_bound) at begins);
     }
 
--- less room is lacking all the more
+-- what is rejected for lack of room is rejected where there is less room too
 pub lacks_more : (more less : ℕ) (part before content : List ℕ) (error : ReceiveError) → less ≤ more
     → RejectsData more part before content error → RejectsData less part before content error
 lacks_more more less part before content OutOfMemory order (none, lacks) = (none, omega (arith, lacks, order))
@@ -111,11 +111,11 @@ fails_more more less was now bytes error order (ApplicationData, content, read, 
     (ApplicationData, content, read, reads, (lacks_more more less was.part was.application_data content error order fails.0, fails.1))
 fails_more more less was now bytes error order (content_type, content, read, reads, fails) = (content_type, content, read, reads, fails)
 
--- the bytes of a buffer from `at` on, which are those of the stream
+-- the bytes of a buffer from `at` on are those of the stream
 rest_of : (stream buffer : List ℕ) (at : ℕ) → drop at buffer ≡ drop at stream → take (length buffer - at) (drop at buffer) ≡ drop at stream
 rest_of stream buffer at same = take_rest buffer at ∙ same
 
--- they begin with no record, or with one that is rejected
+-- the bytes from `at` on begin with no record, or with one that is rejected
 pub rejects_header : (capacity : ℕ) (stream buffer : List ℕ) (first was : Receiving) (at : ℕ) (refusal : RecordError)
     → Taken Step stream first at was → drop at buffer ≡ drop at stream
     → RefusesProtected (take (length buffer - at) (drop at buffer)) refusal
@@ -127,7 +127,7 @@ rejects_header capacity stream buffer first was at refusal taken same refuses = 
   front = inl (refusal, refl, subst (λ t. RefusesProtected t refusal) (rest_of stream buffer at same) refuses, refl, same);
 }
 
--- the record that they begin with, by itself
+-- the record with which the bytes from `at` on begin, without the bytes after it
 pub begins_alone : (buffer : List ℕ) (at len : ℕ) → BeginsProtected (take (length buffer - at) (drop at buffer)) len
     → (take 5 (take (length buffer - at) (drop at buffer)) ≡ take 5 (take (at + len - at) (drop at buffer)))
     × BeginsProtected (take (at + len - at) (drop at buffer)) (length (take (at + len - at) (drop at buffer)))
@@ -168,7 +168,7 @@ rejects_record capacity more stream buffer mid first was now at len error taken 
       );
     }
 
--- one record more is taken
+-- one further record is taken
 pub takes_record : (stream buffer : List ℕ) (first was now : Receiving) (at len : ℕ) → Taken Step stream first at was
     → drop at buffer ≡ drop at stream → length buffer ≡ length stream → at ≤ length buffer
     → len ≤ length (take (length buffer - at) (drop at buffer)) → Step was (take (at + len - at) (drop at buffer)) now

@@ -1,4 +1,4 @@
--- A content that is cut into records.
+-- A content that is cut into records: where its pieces are, and that reading gives it back.
 use Rattle.std.proofs.Common.{◌≡◌, ◌≢◌, ℕ, zero, suc, ◌+◌, ◌-◌, ◌*◌, ◌<◌, ◌≤◌, min, List, [], ◌∷◌, ◌++◌, length, take, drop, map, refl, sym, ap, ap₂, subst, ◌∙◌, arith, append_assoc, append-nil, drop-drop, length-append, length-drop, take_at, add-mul, add-one, zero-add, zero-mul, add-zero, pos_of_ne-zero}
 use Rattle.std.specs.List.{concat, range_with_len}
 use Rattle.std.specs.Int.{div_ceil}
@@ -53,7 +53,7 @@ module _ (key : KeyState) (number : ℕ) (content_type : ContentType) (room padd
       ∙ more_records key number (map inner_at (range_with_len 0 i)) (inner_at i)
       ∙ ap (λ n. first_records i ++ record_at key (number + n) (inner_at i)) (length-map-range_with_len inner_at 0 i)
 
-  -- a record that is appended behind the first i, and one that is written behind them
+  -- a record that is appended after the first i, and one that is written after them
   pub more_appended : (i : ℕ) (old was now : List ℕ) → was ≡ old ++ first_records i → now ≡ was ++ record_at key (number + i) (inner_at i)
       → now ≡ old ++ first_records (i + 1)
   more_appended i old was now before appended =
@@ -103,7 +103,7 @@ pub all_pieces : (room n : ℕ) → (n ≢ 0 → 0 < room) → n ≤ record_coun
 all_pieces room zero pos = omega arith
 all_pieces room (suc m) pos = (div_ceil_times (suc m) room (pos (omega arith))).0
 
--- a piece of the same length as all is the only one
+-- a content of at most `room` bytes has one piece
 only_piece : (room n i : ℕ) → 0 < n → n ≤ room → i < record_count room n → i ≡ 0
 only_piece room n zero some fits lt = refl
 only_piece room n (suc j) some fits lt =
@@ -138,7 +138,7 @@ module _ (size_limit padding : ℕ) (content : List ℕ) (i : ℕ) where
       let same = length-piece most content i in
       record { nonempty = λ none. a.nonempty (grind (arith, here)); alert = λ wrong. cc; fits = omega arith }
 
--- the length of the first i records, of which each has q bytes beside its piece
+-- the length of the first i records, each of which has q bytes more than its piece
 abbrev pub first_len : (room n q i : ℕ) → ℕ
 first_len room n q i = min (i * room) n + i * q
 

@@ -9,7 +9,7 @@ use specs.declared.content_type.ContentType.TheVariants.{Alert, Handshake, Appli
 use specs.declared.record_error.RecordError.{RecordError}
 use specs.declared.record_error.RecordError.TheVariants.{AlertLength, EmptyContent, NoContentType, UnexpectedType}
 
--- a list that is zero after a place
+-- a list whose elements after index n are zero
 pub zeros_behind : (xs : List ℕ) (n : ℕ) → n < length xs → ((k : ℕ) → n < k → k < length xs → get_or xs k 0 ≡ 0)
     → xs ≡ take n xs ++ get_or xs n 0 ∷ replicate (length xs - (n + 1)) 0
 zeros_behind xs n h zeros =
@@ -31,7 +31,7 @@ same_type Handshake Handshake e = refl
 same_type ApplicationData ApplicationData e = refl
 same_type s t e = absurd (omega arith)
 
--- what ends with a type is zeros only where the type is
+-- an inner plaintext is all zeros only if its type is zero
 zeros_type : (content : List ℕ) (content_type padding n : ℕ) → content ++ content_type ∷ replicate padding 0 ≡ replicate n 0 → content_type ≡ 0
 zeros_type [] content_type padding (suc n) e = cc
 zeros_type (x ∷ content) content_type padding (suc n) e = zeros_type content content_type padding n (cc)

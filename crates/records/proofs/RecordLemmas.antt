@@ -1,4 +1,4 @@
--- Records and their headers. A record that is opened, and its inner plaintext, which is then at the front of a buffer or in it.
+-- Records and their headers, and a record that is opened: its inner plaintext is then in a buffer, at the front or further on.
 use Rattle.std.proofs.Common.{◌≡◌, ℕ, ◌+◌, ◌-◌, ◌^◌, List, ◌++◌, length, take, drop, refl, sym, ap, ap₂, ◌∙◌, rules, arith, drop_at, length-append, length-drop, take-append-drop, take_at, Err, Bool, ◌≤◌, true, false, append_assoc, drop-drop, get_or, get_or-drop, inl, inr, length-take-le, ◌<◌}
 use Rattle.std.proofs.lemmas
 use lemmas.Bool.{cases_lt}
@@ -73,8 +73,13 @@ module _ (key : KeyState) (number : ℕ) (bytes : List ℕ) where
         let c : List ℕ = gcm_encrypted (aes key.bytes) nonce message in
         let same : text ++ tag ≡ gcm_sealed (aes key.bytes) nonce (take 5 bytes) message
         = append_cancel_left (take 5 bytes) _ _ (sym parts ∙ s) in
-        let long : length c ≡ length text = omega
-        (arith, length-aes_encrypted key.bytes nonce message, length-append text tag, ap length same, length-aes_sealed key.bytes nonce (take 5 bytes) message) in
+        let long : length c ≡ length text = omega (
+          arith,
+          length-aes_encrypted key.bytes nonce message,
+          length-append text tag,
+          ap length same,
+          length-aes_sealed key.bytes nonce (take 5 bytes) message,
+        ) in
         let here : text ≡ c = sym (take_at text tag _ refl) ∙ ap (take (length text)) same ∙ take_at c _ _ long in
         rw here
         (sym (decrypted-encrypted key.bytes nonce message), sym (drop_at text tag _ refl) ∙ ap (drop (length text)) same ∙ drop_at c _ _ long)
@@ -107,7 +112,7 @@ module _ (key : KeyState) (number : ℕ) (bytes : List ℕ) where
             left = e ∙ ap (λ k. opened ++ drop k old) behind ∙ ap (overwritten old 0) (sym there);
           }
 
-  -- ---- what opening answers
+  -- ---- what opening returns
 
   same_message : (m m' : List ℕ) → Seals key number bytes m → Seals key number bytes m' → m ≡ m'
   same_message m m' s s' =

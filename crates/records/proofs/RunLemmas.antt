@@ -23,7 +23,7 @@ carries_under k l m n bytes inner same_bytes same_iv same_number le c = record {
   made = rw (same_bytes, same_iv, same_number) c.made;
 }
 
--- one record
+-- reading one record undoes writing it
 one_record : (was w : WriterState) (reader r : ReaderState) (inner : Inner) (bytes : List ℕ) (answer : Answer) → Follows was reader
     → Writes was w inner bytes → Reads reader r bytes answer
     → (answer ≡ Ok (inner.content_type, inner.content)) × Follows w r
@@ -47,7 +47,7 @@ one_record was w reader r inner bytes (Err error) f s t =
     let here = carries_under was.key reader.key was.number reader.number bytes inner f.bytes f.iv f.number f.size_limit s.carries in
     let wrong : false ≡ true = opens.accepted inner here in cc
 
--- one key update
+-- a reader follows a writer over one key update
 one_update : (was w : WriterState) (reader r : ReaderState) (key iv key' iv' : List ℕ) → key' ≡ key → iv' ≡ iv → Follows was reader
     → w ≡ record was { key = rekeyed was.key key iv; secret = next_of was.secret; number = 0 }
     → r ≡ record reader { key = rekeyed reader.key key' iv'; secret = next_of reader.secret; number = 0 } → Follows w r
@@ -140,7 +140,7 @@ abbrev CountsByKey : (from limit : ℕ) → List (List ℕ) → Type 0
 CountsByKey from limit [] = Unit {0}
 CountsByKey from limit (ns ∷ later) = (n : ℕ) × (ns ≡ range_with_len from n) × (n ≤ limit - from) × CountsByKey 0 limit later
 
--- the same below a higher limit
+-- numbers below a limit are below a higher limit too
 looser : (from low high : ℕ) (by_key : List (List ℕ)) → low ≤ high → CountsByKey from low by_key → CountsByKey from high by_key
 looser from low high [] le h = tt
 looser from low high (ns ∷ later) le h = (h.0, h.1, omega (arith, h.2), looser 0 low high later le h.3)

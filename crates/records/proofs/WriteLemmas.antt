@@ -1,4 +1,4 @@
--- An inner plaintext and the payload of its record, made in place.
+-- An inner plaintext and the payload of its record, which are made in place.
 use Rattle.std.proofs.Common.{◌≡◌, ℕ, ◌+◌, ◌-◌, ◌<◌, List, [], ◌∷◌, ◌++◌, length, set, take, drop, replicate, sym, ap, ap₂, ◌∙◌, arith, append_assoc, append-nil, drop_at, length-append, length-drop, take_all, take_at}
 use Rattle.std.proofs.lemmas.List.{drop_all, length-set, take_more_set}
 use Rattle.aead_ciphers_base.specs.Aes.{aes}
@@ -9,7 +9,7 @@ use borrow.Rule.Slice.PartMut.{put_mid}
 use Rattle.records.specs.Keys.{KeyState}
 use Rattle.records.specs.Record.{Inner, header, inner_plaintext, plaintext, record_at}
 
--- a type and zeros are written after a content
+-- a type and zeros, written after a content, make it an inner plaintext
 pub padded : (old zs : List ℕ) (n k code : ℕ) → n < length old → k ≡ length old - (n + 1) → zs ≡ replicate (length old - 1 - n) 0
     → put_mid (n + 1) k (set old n code) zs ≡ plaintext (take n old) code (length old - 1 - n)
 padded old zs n k code within part zeros =
@@ -29,7 +29,7 @@ sealed_payload key number n i text tag size is_text is_tag =
     ap (λ t. header n ++ (text ++ t)) is_tag
     ∙ ap₂ (λ m c. header m ++ (c ++ gcm_tag cipher nonce (header m) c)) size is_text
 
--- a buffer that ends with a header and an inner plaintext, once the plaintext is encrypted in place and its tag stands behind it
+-- a buffer that ends with a header and an inner plaintext, once the plaintext is encrypted in place and its tag is after it
 module _ (key : KeyState) (number n at len : ℕ) (i : Inner) (old head buffer text tag : List ℕ) (size : n ≡ length (inner_plaintext i) + 16)
     (is_head : head ≡ header n) (is : buffer ≡ old ++ (head ++ inner_plaintext i)) (from : at ≡ length old + 5) (all : len ≡ length buffer)
     (is_text : text ≡ gcm_encrypted (aes key.bytes) (xored_nonce key.iv number) (take (length buffer - at) (drop at buffer)))

@@ -2,8 +2,9 @@
 use Rattle.std.specs.Prelude.{◌≡◌, ℕ, ◌+◌, ◌-◌, ◌≤◌, List, ◌++◌, Result, IfErr, OnErr, OnOk, Vec, vec_capacity, vec_len}
 use Rattle.records.specs.declared.record_error.RecordError.{RecordError}
 
--- What becomes of a call that appends these bytes to a `Vec`. They are appended, and the caller's state becomes `after`; or the call is
--- refused for a reason, which may depend on how many bytes more the `Vec` has room for, and neither its bytes nor the state change.
+-- The outcome of a call that appends these bytes to a `Vec`. Either they are appended, and the caller's state becomes `after`. Or
+-- the call is refused for a reason, which may depend on how many bytes more the `Vec` has room for, and neither the bytes of the
+-- `Vec` nor the state change.
 pub record AppendOutcome {T State Z : Type 0} (Accepts : Type 0) (Refuses : (spare : ℕ) → RecordError → Type 0) (bytes : List ℕ)
     (old new : Vec ℕ Z) (result : Result T RecordError) (before now after : State) : Type 0 where
   pub accepted : OnOk result Accepts

@@ -1,4 +1,4 @@
--- A content of any length, as the contents of as many records as it takes (RFC 8446 section 5.1).
+-- A content of any length, cut into the contents of as many records as it takes (RFC 8446 section 5.1).
 use Rattle.std.specs.Prelude.{◌≡◌, ℕ, zero, ◌+◌, ◌*◌, ◌-◌, ◌^◌, ◌<◌, ◌≤◌, min, List, [], ◌∷◌, length, take, drop, map}
 use Rattle.std.specs.Int.{div_ceil}
 use Rattle.std.specs.List.{range_with_len}
@@ -11,13 +11,13 @@ use Rattle.records.specs.declared.record_error.RecordError.{RecordError}
 use Rattle.records.specs.declared.record_error.RecordError.TheVariants.{KeyUsedUp, NoRoom, OutOfMemory}
 use Rattle.records.specs.declared.writer.content.Cut.{Cut}
 
--- the least that a record has of a content of n bytes: the whole of an alert, which is never cut, and otherwise a byte, if there is
--- one (sections 5.1 and 5.4)
+-- the smallest part of a content of n bytes that a record has: the whole of an alert, which is never cut, and otherwise one byte,
+-- if there is one (sections 5.1 and 5.4)
 abbrev pub least_piece : ContentType → ℕ → ℕ
 least_piece Alert n = n
 least_piece content_type n = min n 1
 
--- the bytes of content that a record has room for beside its type and its padding (section 5.4, RFC 8449 section 4)
+-- how many bytes of content a record has room for, beside its type and its padding (section 5.4, RFC 8449 section 4)
 abbrev pub piece_room : (size_limit padding : ℕ) → ℕ
 piece_room size_limit padding = size_limit - 1 - padding
 
@@ -26,7 +26,7 @@ abbrev pub record_count : (room n : ℕ) → ℕ
 record_count room zero = 1
 record_count room n = div_ceil n room
 
--- the i-th record has the next bytes of the content, as many as there is room for
+-- record i, counted from 0, has the next bytes of the content, as many as there is room for
 abbrev pub piece : ContentType → (room padding : ℕ) → List ℕ → ℕ → Inner
 piece content_type room padding content i =
     record { content_type = content_type; content = take room (drop (i * room) content); padding = padding }
@@ -52,7 +52,7 @@ abbrev pub after_content : WriterState → (padding n : ℕ) → WriterState
 after_content writer padding n =
     record writer { number = writer.number + record_count (piece_room writer.key.size_limit padding) n }
 
--- how n bytes of content are cut, with this padding in each record, by a size limit of at most 2^14 + 1 (section 5.4)
+-- this is how n bytes of content are cut, with this padding in each record, by a size limit of at most 2^14 + 1 (section 5.4)
 pub record IsCut (size_limit padding n : ℕ) (cut : Cut) : Type 0 where
   pub limit : size_limit ≤ 2 ^ 14 + 1
   pub room : cut.room ≡ piece_room size_limit padding
@@ -62,13 +62,13 @@ pub record IsCut (size_limit padding n : ℕ) (cut : Cut) : Type 0 where
 abbrev pub records_len : (size_limit padding n : ℕ) → ℕ
 records_len size_limit padding n = n + record_count (piece_room size_limit padding) n * (padding + 22)
 
--- a writer may write n bytes of content with this padding in each record: a record may have the least of it, and as many numbers as
--- it takes are left
+-- a writer may write n bytes of content with this padding in each record: a record may have the smallest part of the content, and
+-- there are numbers for all its records
 pub record IsWritable (writer : WriterState) (content_type : ContentType) (n padding : ℕ) : Type 0 where
   pub fits : IsAllowed writer.key.size_limit content_type (least_piece content_type n) padding
   pub numbers : writer.number + record_count (piece_room writer.key.size_limit padding) n ≤ writer.limit
 
--- why it may not
+-- the error is the reason why a writer may not write n bytes of content
 abbrev pub RefusesToWrite : WriterState → ContentType → (n padding : ℕ) → RecordError → Type 0
 RefusesToWrite writer content_type n padding KeyUsedUp =
     IsAllowed writer.key.size_limit content_type (least_piece content_type n) padding
@@ -76,13 +76,13 @@ RefusesToWrite writer content_type n padding KeyUsedUp =
 RefusesToWrite writer content_type n padding error =
     RefusesContent writer.key.size_limit content_type (least_piece content_type n) padding error
 
--- why it may not write it to a buffer of `room` bytes
+-- the error is the reason why a writer may not seal n bytes of content in a buffer of `room` bytes
 abbrev pub RefusesToSealAll : WriterState → ContentType → (n padding room : ℕ) → RecordError → Type 0
 RefusesToSealAll writer content_type n padding room NoRoom =
     IsWritable writer content_type n padding × (room < records_len writer.key.size_limit padding n)
 RefusesToSealAll writer content_type n padding room error = RefusesToWrite writer content_type n padding error
 
--- why it may not append it to a `Vec` that has room for `spare` bytes more
+-- the error is the reason why a writer may not append n bytes of content to a `Vec` that has room for `spare` bytes more
 abbrev pub RefusesToWriteAll : WriterState → ContentType → (n padding spare : ℕ) → RecordError → Type 0
 RefusesToWriteAll writer content_type n padding spare OutOfMemory =
     IsWritable writer content_type n padding × (spare < records_len writer.key.size_limit padding n)

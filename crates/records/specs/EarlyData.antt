@@ -1,4 +1,4 @@
--- Early data that a server has rejected, and passes over (RFC 8446 section 4.2.10).
+-- How a server passes over early data that it has rejected (RFC 8446 section 4.2.10).
 use Rattle.std.specs.Prelude.{◌≡◌, ◌⊎◌, ℕ, ◌+◌, ◌-◌, ◌^◌, ◌<◌, ◌≤◌, Bool, true, IsFalse, IsTrue, List, length, take, drop, Option, Some, None, Result, Ok, Err}
 use Rattle.records.specs.Keys.{ReaderState}
 use Rattle.records.specs.Record.{IsWhole, Seals}
@@ -8,27 +8,27 @@ use Rattle.records.specs.declared.content_type.ContentType.{ContentType}
 use Rattle.records.specs.declared.record_error.RecordError.{RecordError}
 use Rattle.records.specs.declared.record_error.RecordError.TheVariants.{TooMuchEarlyData}
 
--- whether no more is passed over, and how many bytes still may be
+-- rejected early data: how many bytes may still be passed over, and whether the early data is over
 pub record EarlyDataState : Type 0 where
   pub remaining : ℕ
   pub is_over : Bool
 
--- a whole record of any cipher: at most 2^14 + 256 bytes follow its header (section 5.2)
+-- the bytes are a whole record of any cipher: at most 2^14 + 256 bytes follow its header (section 5.2)
 abbrev pub IsEncryptedRecord : List ℕ → Type 0
 IsEncryptedRecord bytes = IsWhole (2 ^ 14 + 256 - 16) bytes
 
--- a record counts as the encrypted record without a content type and a tag, 17 bytes; its header has 5
+-- how many bytes of early data a record counts as: all but its header of 5 bytes, a content type and a tag of 16 bytes
 abbrev pub counted_len : List ℕ → ℕ
 counted_len bytes = length bytes - 5 - 17
 
--- why a record is not passed over
+-- the error is the reason why a record is not passed over
 abbrev pub RefusesToSkip : EarlyDataState → List ℕ → RecordError → Type 0
 RefusesToSkip early bytes TooMuchEarlyData =
     IsEncryptedRecord bytes × (IsTrue early.is_over ⊎ (early.remaining < counted_len bytes))
 RefusesToSkip early bytes error = RefusesBytes (2 ^ 14 + 256 - 16) bytes error
 
--- A record that a reader passes over, if the bound allows it: one of any cipher that isn't authentic under the next number, or is
--- longer than the size limit, which the client did not know when it sent early data
+-- A reader passes over this record, if the bound allows it: it is a record of any cipher that isn't authentic under the next
+-- number, or that is longer than the size limit, which the client did not know when it sent early data.
 pub record IsPassedOver (reader : ReaderState) (early : EarlyDataState) (bytes : List ℕ) : Type 0 where
   pub goes_on : IsFalse early.is_over
   pub is_open : IsFalse reader.is_closed

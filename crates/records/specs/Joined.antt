@@ -13,21 +13,21 @@ pub data Token : Type 0 where
   byte : ℕ → Token
   message : List ℕ → Token
 
--- a reader of messages takes these from one record, and then this part of the next
+-- a reader of messages takes these messages from one record, and then this part of the next message
 abbrev pub Accepts : Stage → (bound : ℕ) → List (List ℕ) → (part : List ℕ) → Type 0
 Accepts stage bound [] part = Begins stage bound part
 Accepts stage bound (first ∷ later) part =
     IsExpected stage bound first × IsTaken first (concat later ++ part) × Accepts stage bound later part
 
--- the last of these messages is a KeyUpdate (section 4.6.3)
+-- whether the last of these messages is a KeyUpdate (section 4.6.3)
 abbrev pub ends_in_update : List (List ℕ) → Bool
 ends_in_update [] = false
 ends_in_update (last ∷ []) = slice_index last 0 == 24
 ends_in_update (first ∷ next ∷ later) = ends_in_update (next ∷ later)
 
--- A writer is asked to write these bytes and messages. Each handshake content, after the part of a message that was left before it,
--- is whole messages that are accepted, and a part of the next. No other record comes between the parts of a message. The next key
--- comes after each KeyUpdate, and nowhere else.
+-- A writer is asked to write these bytes and messages. Each handshake content continues the part of a message that the content
+-- before it ended in; together they are whole messages that are accepted, and a part of the next message. No record of another
+-- type comes between the parts of a message. The next key comes after each KeyUpdate, and nowhere else.
 pub data Says (stage : Stage) (bound : ℕ) : (part : List ℕ) → (is_due : Bool) → List (Event Inner) → List Token → Type 0 where
   says_nothing : Says stage bound [] false [] []
   says_data : (content : List ℕ) (padding : ℕ) (later : List (Event Inner)) (rest : List Token)
@@ -45,8 +45,8 @@ pub data Says (stage : Stage) (bound : ℕ) : (part : List ℕ) → (is_due : Bo
   says_update : (key iv : List ℕ) (later : List (Event Inner)) (rest : List Token)
       → Says stage bound [] false later rest → Says stage bound [] true (updates key iv ∷ later) rest
 
--- Joined reading of what a reader of records returns gives these bytes and messages, and rejects nothing. It continues with the next
--- key after each KeyUpdate, and nowhere else.
+-- Joined reading of what a reader of records returns gives these bytes and messages, and rejects nothing. It continues with the
+-- next key after each KeyUpdate, and nowhere else.
 pub data Joins (stage : Stage) (bound : ℕ) : (part : List ℕ) → (is_due : Bool) → List (Event Answer) → List Token → Type 0 where
   joins_nothing : Joins stage bound [] false [] []
   joins_data : (content : List ℕ) (later : List (Event Answer)) (rest : List Token) → Joins stage bound [] false later rest

@@ -1,4 +1,4 @@
--- Keys, writers and readers as contracts see them.
+-- What contracts see of keys, writers and readers, and how a key update changes them.
 use Rattle.std.specs.Prelude.{◌≡◌, ℕ, zero, suc, ◌+◌, ◌-◌, ◌^◌, Bool, false, List, Option, Some, None, IfSome, IsSome}
 use Rattle.aead_ciphers.specs.declared.aead.algorithm.Algorithm.{Algorithm}
 use Rattle.aead_ciphers.specs.declared.aead.algorithm.AlgorithmId.TheVariants.{AES_128_GCM, AES_256_GCM}
@@ -19,15 +19,15 @@ pub record KeyState : Type 0 where
 abbrev pub key_state : Inside → KeyState
 key_state key = record { algorithm = key.key.algorithm; bytes = key.key.bytes; iv = key.iv; size_limit = key.size_limit }
 
--- a writer: its key, the traffic secret of this key, unless the caller gave the key, the number of the next record, and the number
--- at which its limit is reached
+-- a writer: its key, the traffic secret of the key, unless the caller gave the key, the number of the next record, and the number
+-- at which the writer's limit is reached
 pub record WriterState : Type 0 where
   pub key : KeyState
   pub secret : Option SecretState
   pub number : ℕ
   pub limit : ℕ
 
--- a reader: also whether it is closed
+-- a reader: its key, secret, number and limit, as of a writer, and whether it is closed
 pub record ReaderState : Type 0 where
   pub key : KeyState
   pub secret : Option SecretState
@@ -56,50 +56,54 @@ suite_algorithm Aes256Gcm = record { id = AES_256_GCM }
 abbrev pub secret_key : SecretState → KeyState
 secret_key s = new_key (suite_algorithm s.suite) (record_key s) (record_iv s)
 
--- a key is that of this traffic secret
+-- the key is that of this traffic secret
 pub record IsKeyOf (s : SecretState) (key : KeyState) : Type 0 where
   pub algorithm : key.algorithm ≡ suite_algorithm s.suite
   pub bytes : key.bytes ≡ record_key s
   pub iv : key.iv ≡ record_iv s
 
--- this traffic secret is held, and its key
+-- a writer or reader that holds `secret` and `key` holds this traffic secret and its key
 pub record Holds (s : SecretState) (secret : Option SecretState) (key : KeyState) : Type 0 where
   pub secret_is : secret ≡ Some s
   pub key_is : IsKeyOf s key
 
--- a traffic secret is held, and the key is that of this secret
+-- a writer or reader that holds `secret` and `key` holds a traffic secret, and the key is that of the secret
 pub record IsOfSecret (secret : Option SecretState) (key : KeyState) : Type 0 where
   pub held : IsSome secret
   pub key_is : IfSome secret (λ s. IsKeyOf s key)
 
--- the ends of a secret, before their first record
+-- the writer of a traffic secret, before its first record
 abbrev pub writer_of : SecretState → WriterState
 writer_of s = record { key = secret_key s; secret = Some s; number = 0; limit = 2 ^ 24 }
 
+-- the reader of a traffic secret, before its first record
 abbrev pub reader_of : SecretState → ReaderState
 reader_of s = record { key = secret_key s; secret = Some s; number = 0; limit = 2 ^ 64 - 1; is_closed = false }
 
--- the secret after a key update (RFC 8446 section 7.2), and after n of them
+-- the traffic secret after a key update, if there is one (RFC 8446 section 7.2)
 abbrev pub next_of : Option SecretState → Option SecretState
 next_of None = None
 next_of (Some s) = Some (next_traffic_secret s)
 
+-- the traffic secret after n key updates
 abbrev pub nth_secret : SecretState → ℕ → SecretState
 nth_secret s zero = s
 nth_secret s (suc n) = nth_secret (next_traffic_secret s) n
 
--- the ends that continue under this secret, if there is one
+-- the writer after it continues under this traffic secret, if there is one
 abbrev pub writer_under : Option SecretState → WriterState → WriterState
 writer_under None w = w
 writer_under (Some s) w = record w { key = rekeyed w.key (record_key s) (record_iv s); secret = Some s; number = 0 }
 
+-- the reader after it continues under this traffic secret, if there is one
 abbrev pub reader_under : Option SecretState → ReaderState → ReaderState
 reader_under None r = r
 reader_under (Some s) r = record r { key = rekeyed r.key (record_key s) (record_iv s); secret = Some s; number = 0 }
 
--- the ends after a key update
+-- the writer after a key update
 abbrev pub next_writer : WriterState → WriterState
 next_writer w = writer_under (next_of w.secret) w
 
+-- the reader after a key update
 abbrev pub next_reader : ReaderState → ReaderState
 next_reader r = reader_under (next_of r.secret) r

@@ -1,4 +1,4 @@
--- Records (RFC 8446 sections 5.1 to 5.4).
+-- Protected records: the header, the inner plaintext, and how it is sealed (RFC 8446 sections 5.1 to 5.4).
 use Rattle.std.specs.Prelude.{◌≡◌, ◌≢◌, ℕ, ◌+◌, ◌-◌, ◌≤◌, List, [], ◌∷◌, ◌++◌, length, take, drop, replicate}
 use Rattle.std.specs.Int.{from_be_bytes, to_be_bytes, w16}
 use Rattle.aead_ciphers_base.specs.Aes.{aes}
@@ -71,7 +71,7 @@ pub record IsHeader (size_limit : ℕ) (bytes : List ℕ) : Type 0 where
   pub shortest : 17 ≤ body_len bytes
   pub longest : body_len bytes ≤ size_limit + 16
 
--- these bytes are the record with this number, and these are its contents
+-- these bytes are the record with this number and this content, type and padding
 pub record Carries (key : KeyState) (number : ℕ) (bytes : List ℕ) (inner : Inner) : Type 0 where
   pub allowed : IsAllowed key.size_limit inner.content_type (length inner.content) inner.padding
   pub made : bytes ≡ record_at key number inner

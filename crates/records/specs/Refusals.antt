@@ -1,4 +1,4 @@
--- The reasons for each error, and the alert that an error calls for.
+-- The reason for each error of sealing and opening a record, and the alert that an error calls for.
 use Rattle.std.specs.Prelude.{◌≡◌, ◌≢◌, ◌⊎◌, ℕ, ◌+◌, ◌^◌, ◌<◌, ◌≤◌, List, [], length, take, replicate, Option, Some, None, IsFalse, IsNone, IsSome, IsTrue}
 use Rattle.aead_ciphers.specs.Algorithm.{key_len}
 use Rattle.records.specs.Keys.{HasKey, KeyState, ReaderState, WriterState}
@@ -13,8 +13,8 @@ use Rattle.records.specs.declared.record_error.RecordError.TheVariants.{Encrypte
 use Rattle.records.specs.declared.record_error.RecordError.TheVariants.{NoRoom, OutOfMemory, PeerSizeLimit, PlaintextTooLong, Refused, SameKey, TooMuchEarlyData, UnexpectedRecord}
 use Rattle.records.specs.declared.record_error.RecordError.TheVariants.{UnexpectedType, WrongLength}
 
--- the alert that ends the connection when a record is rejected (sections 4.6.1, 5, 5.1, 5.2, 5.4 and 6.2), or a size limit (RFC 8449
--- section 4), or none if the peer is not the cause
+-- the alert that ends the connection when a record is rejected (sections 4.6.1, 5, 5.1, 5.2, 5.4 and 6.2) or a size limit is (RFC
+-- 8449 section 4), or none if the peer is not the cause
 abbrev pub alert_of : RecordError → Option AlertDescription
 alert_of EncryptedRecordTooShort = Some BadRecordMac
 alert_of Refused = Some BadRecordMac
@@ -30,7 +30,7 @@ alert_of AlertLength = Some DecodeError
 alert_of PeerSizeLimit = Some IllegalParameter
 alert_of error = None
 
--- why n bytes of content and this padding make no record
+-- the error is the reason why no record may have n bytes of content and this padding
 abbrev pub RefusesContent : (size_limit : ℕ) → ContentType → (n padding : ℕ) → RecordError → Type 0
 RefusesContent size_limit content_type n padding EmptyContent = (n ≡ 0) × (content_type ≢ ApplicationData)
 RefusesContent size_limit content_type n padding AlertLength = (n ≢ 0) × (n ≢ 2) × (content_type ≡ Alert)
@@ -38,19 +38,19 @@ RefusesContent size_limit content_type n padding ContentTooLong =
     (n ≡ 0 → content_type ≡ ApplicationData) × (content_type ≡ Alert → n ≡ 2) × (size_limit < n + 1 + padding)
 RefusesContent size_limit content_type n padding error = ⊥
 
--- why they make no record in a buffer of `room` bytes
+-- the error is the reason why a record of n bytes of content and this padding isn't made in a buffer of `room` bytes
 abbrev pub RefusesToSeal : (size_limit : ℕ) → ContentType → (n padding room : ℕ) → RecordError → Type 0
 RefusesToSeal size_limit content_type n padding room NoRoom =
     IsAllowed size_limit content_type n padding × (room < n + padding + 22)
 RefusesToSeal size_limit content_type n padding room error = RefusesContent size_limit content_type n padding error
 
--- why a writer makes no record of them in such a buffer
+-- the error is the reason why a writer doesn't make the next record in such a buffer
 abbrev pub RefusesToSealNext : WriterState → ContentType → (n padding room : ℕ) → RecordError → Type 0
 RefusesToSealNext writer content_type n padding room KeyUsedUp = writer.limit ≤ writer.number
 RefusesToSealNext writer content_type n padding room error =
     (writer.number < writer.limit) × RefusesToSeal writer.key.size_limit content_type n padding room error
 
--- why a writer appends no record of them to a `Vec` that has room for `spare` bytes more
+-- the error is the reason why a writer doesn't append the next record to a `Vec` that has room for `spare` bytes more
 abbrev pub RefusesToWriteNext : WriterState → ContentType → (n padding spare : ℕ) → RecordError → Type 0
 RefusesToWriteNext writer content_type n padding spare KeyUsedUp = writer.limit ≤ writer.number
 RefusesToWriteNext writer content_type n padding spare OutOfMemory =
@@ -58,27 +58,27 @@ RefusesToWriteNext writer content_type n padding spare OutOfMemory =
 RefusesToWriteNext writer content_type n padding spare error =
     (writer.number < writer.limit) × RefusesContent writer.key.size_limit content_type n padding error
 
--- why the length of an encrypted record is rejected. 2^14 + 256 bytes is the limit of section 5.2 for any cipher; `size_limit` bounds
--- the inner plaintext, so its tag adds 16 bytes
+-- The error is the reason why the length of an encrypted record is rejected. 2^14 + 256 bytes is the limit of section 5.2 for any
+-- cipher. `size_limit` bounds the inner plaintext, to which the tag adds 16 bytes.
 abbrev pub RefusesLen : (size_limit len : ℕ) → RecordError → Type 0
 RefusesLen size_limit len EncryptedRecordTooLong = 2 ^ 14 + 256 < len
 RefusesLen size_limit len InnerPlaintextTooLong = (size_limit + 16 < len) × (len ≤ 2 ^ 14 + 256)
 RefusesLen size_limit len EncryptedRecordTooShort = len < 17
 RefusesLen size_limit len error = ⊥
 
--- why a header is rejected
+-- the error is the reason why a header is rejected
 abbrev pub RefusesHeader : (size_limit : ℕ) → List ℕ → RecordError → Type 0
 RefusesHeader size_limit bytes UnexpectedRecord = take 3 bytes ≢ record_start
 RefusesHeader size_limit bytes error = (take 3 bytes ≡ record_start) × RefusesLen size_limit (body_len bytes) error
 
--- why bytes are not one whole record
+-- the error is the reason why these bytes are not one whole record
 abbrev pub RefusesBytes : (size_limit : ℕ) → List ℕ → RecordError → Type 0
 RefusesBytes size_limit bytes WrongLength =
     (length bytes < 5) ⊎ (IsHeader size_limit (take 5 bytes) × (length bytes ≢ 5 + body_len (take 5 bytes)))
 RefusesBytes size_limit bytes error = (5 ≤ length bytes) × RefusesHeader size_limit (take 5 bytes) error
 
--- why an inner plaintext is rejected: it has no content type, or one that no protected record has, or an empty handshake or
--- alert content, or an alert content that is not one alert (sections 5, 5.1 and 5.4)
+-- The error is the reason why an inner plaintext is rejected: it has no content type, or one that no protected record has, or an
+-- empty handshake or alert content, or an alert content that is not one alert (sections 5, 5.1 and 5.4).
 abbrev pub RefusesInner : List ℕ → RecordError → Type 0
 RefusesInner inner NoContentType = inner ≡ replicate (length inner) 0
 RefusesInner inner UnexpectedType =
@@ -90,13 +90,13 @@ RefusesInner inner AlertLength = (content : List ℕ) × (padding : ℕ) × (len
     × (inner ≡ plaintext content (type_code Alert) padding)
 RefusesInner inner error = ⊥
 
--- an authentic record whose inner plaintext is rejected
+-- these bytes are an authentic record whose inner plaintext is rejected with this error
 abbrev pub SealsRefused : KeyState → ℕ → List ℕ → RecordError → Type 0
 SealsRefused key number bytes error =
     IsWhole key.size_limit bytes × (inner : List ℕ) × Seals key number bytes inner × RefusesInner inner error
 
--- why a record does not open: the bytes are not one whole record, or it is not authentic (section 5.2), or its contents are
--- rejected
+-- The error is the reason why a record does not open: the bytes are not one whole record, or the record is not authentic (section
+-- 5.2), or its inner plaintext is rejected.
 abbrev pub RefusesToOpen : KeyState → ℕ → List ℕ → RecordError → Type 0
 RefusesToOpen key number bytes Refused =
     IsWhole key.size_limit bytes × ((message : List ℕ) → ¬ Seals key number bytes message)
@@ -106,12 +106,12 @@ RefusesToOpen key number bytes EmptyContent = SealsRefused key number bytes Empt
 RefusesToOpen key number bytes AlertLength = SealsRefused key number bytes AlertLength
 RefusesToOpen key number bytes error = RefusesBytes key.size_limit bytes error
 
--- why a record does not open to a buffer that has no room for its inner plaintext
+-- the error is the reason why a record does not open to a buffer that has no room for its inner plaintext
 abbrev pub RefusesToOpenTo : (size_limit : ℕ) → List ℕ → RecordError → Type 0
 RefusesToOpenTo size_limit bytes NoRoom = IsWhole size_limit bytes
 RefusesToOpenTo size_limit bytes error = RefusesBytes size_limit bytes error
 
--- why a writer doesn't continue under this key and this IV
+-- the error is the reason why a writer doesn't continue under this key and this IV
 abbrev pub RefusesWriteKey : WriterState → (key iv : List ℕ) → RecordError → Type 0
 RefusesWriteKey writer key iv HasSecret = IsSome writer.secret
 RefusesWriteKey writer key iv SameKey = IsNone writer.secret × HasKey writer.key key iv
@@ -119,7 +119,7 @@ RefusesWriteKey writer key iv KeyLength =
     IsNone writer.secret × (¬ HasKey writer.key key iv) × (length key ≢ key_len writer.key.algorithm)
 RefusesWriteKey writer key iv error = ⊥
 
--- why a reader doesn't continue under this key
+-- the error is the reason why a reader doesn't continue under this key
 abbrev pub RefusesReadKey : ReaderState → (key : List ℕ) → RecordError → Type 0
 RefusesReadKey reader key Closed = IsTrue reader.is_closed
 RefusesReadKey reader key HasSecret = IsFalse reader.is_closed × IsSome reader.secret

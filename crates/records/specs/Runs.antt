@@ -8,12 +8,12 @@ use Rattle.records.specs.Steps.{Reads, Writes}
 use Rattle.records.specs.declared.content_type.ContentType.{ContentType}
 use Rattle.records.specs.declared.record_error.RecordError.{RecordError}
 
--- one step: a record and what is said of it, or a key update with the key and its IV
+-- one step of a run: a record, or what is said of a record, or a key update with its key and IV
 pub data Event (A : Type 0) : Type 0 where
   carries : A → Event A
   updates : (key iv : List ℕ) → Event A
 
--- the next key and its IV, of the secret if there is one (section 7.2)
+-- this key and this IV are those of the next traffic secret, if there is a secret (section 7.2)
 abbrev pub IsNextKey : Option SecretState → (key iv : List ℕ) → Type 0
 IsNextKey None key iv = Unit {0}
 IsNextKey (Some s) key iv = let next = next_traffic_secret s in (key ≡ record_key next) × (iv ≡ record_iv next)
@@ -26,6 +26,7 @@ WriteStep was now (updates key iv) (updates key' iv') =
     × (key' ≡ key) × (iv' ≡ iv) × IsNextKey was.secret key iv
 WriteStep was now asked sent = ⊥
 
+-- what a reader returns for a record: the type and the content, or an error
 abbrev pub Answer : Type 0
 Answer = Result (ContentType × List ℕ) RecordError
 
@@ -51,7 +52,7 @@ abbrev pub as_asked : Event Inner → Event Answer
 as_asked (carries inner) = carries (Ok (inner.content_type, inner.content))
 as_asked (updates key iv) = updates key iv
 
--- how many updates there are
+-- how many key updates a run has
 abbrev pub updates_in : {A : Type 0} → List (Event A) → ℕ
 updates_in [] = 0
 updates_in (carries a ∷ later) = updates_in later

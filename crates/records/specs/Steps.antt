@@ -31,8 +31,8 @@ lent_content (Err error) = Err error
 abbrev pub overwritten : List ℕ → ℕ → List ℕ → List ℕ
 overwritten buffer at bytes = take at buffer ++ bytes ++ drop (at + length bytes) buffer
 
--- a record of n bytes is opened: its inner plaintext, which is all but a header and a tag of 5 and 16 bytes, is in the buffer from
--- `at` on, and every other byte is unchanged
+-- A record of n bytes is opened. Its inner plaintext, which is as long as the record without a header of 5 bytes and a tag of 16,
+-- is in the buffer from `at` on. Every other byte is unchanged.
 abbrev pub LeavesInner : ℕ → ℕ → List ℕ → List ℕ → ContentType × ℕ → Type 0
 LeavesInner n at old new (content_type, len) = (padding : ℕ) × (5 + (len + 1 + padding) + 16 ≡ n)
     × (new ≡ overwritten old at (inner_plaintext (record {

@@ -24,7 +24,7 @@ pub fn fatal_alert(description: AlertDescription) -> [u8; ALERT_LEN]
     [2, description as u8]
 }
 
-/// Returns the record of an alert in plaintext, for an endpoint that has no keys yet (RFC 8446 section 5.1).
+/// Returns the plaintext record of an alert, for an endpoint that has no keys yet (RFC 8446 section 5.1).
 pub fn plaintext_alert(alert: [u8; ALERT_LEN]) -> [u8; 7]
     ensures { result ≡ plaintext_alert_record alert }
 {

@@ -1,5 +1,5 @@
-//! One end of a TLS 1.3 connection after the handshake: what it receives, over the peer's key updates, and what it sends, over
-//! its own.
+//! One end of a TLS 1.3 connection after the handshake: it receives records, over the peer's key updates, and sends records, over
+//! its own key updates.
 
 ghost use Rattle.std.specs.Prelude.{◌≡◌, ◌≢◌, ◌↔◌, [], ◌+◌, ◌<◌, ◌≤◌, ◌++◌, length, drop, IsTrue, IsFalse, IsErrOf, IsOk, IsOkUnless, IfOk, IfErr, cond, vec_len, vec_capacity};
 ghost use Rattle.records.specs.Alerts.{close_notify, fatal_record};
@@ -28,8 +28,8 @@ use std::marker::Model;
 use tls_messages::message_type::KEY_UPDATE;
 use tls_messages::{AlertDescription, KEY_UPDATE_LEN, MessageReader, Stage};
 
-/// The numbers of each key that are kept: one for a KeyUpdate, and the last for an alert.
-const KEPT: u64 = 2;
+/// How many numbers of each key are reserved: one for a KeyUpdate, and the last one for an alert.
+const RESERVED: u64 = 2;
 
 /// The length in bytes of the record of a KeyUpdate.
 const UPDATE_LEN: usize = KEY_UPDATE_LEN + RECORD_OVERHEAD;
@@ -44,7 +44,7 @@ pub enum KeyUpdateRequest {
 }
 
 impl KeyUpdateRequest {
-    /// The KeyUpdate with this request.
+    /// Returns the KeyUpdate message with this request.
     fn message(self) -> [u8; KEY_UPDATE_LEN]
         ensures { result ≡ (key_update self).content }
     {
@@ -52,7 +52,7 @@ impl KeyUpdateRequest {
     }
 }
 
-/// What a connection is made of, and what it leaves undone.
+/// The parts of a connection that was taken apart, and what it has left undone.
 #[derive(Drop)]
 pub struct Parts {
     /// The reader, which goes on after the last record that was received.
@@ -167,7 +167,7 @@ impl<'b> Connection<'b> {
 
     /// Takes the connection apart.
     ///
-    /// Whether a direction has ended is asked before, by `is_ended` and `is_closed`.
+    /// A caller that needs to know whether a direction has ended calls `is_ended` and `is_closed` before.
     pub fn into_parts(self) -> Parts
         ensures reader { result.reader ≡ self.entry.reader }
         ensures writer { result.writer ≡ self.entry.writer }
@@ -218,7 +218,7 @@ impl<'b> Connection<'b> {
     pub fn remaining(&self) -> u64
         ensures { result ≡ content_left self.now.writer }
     {
-        self.writer.remaining().saturating_sub(KEPT)
+        self.writer.remaining().saturating_sub(RESERVED)
     }
 
     /// Receives the whole records at the front of `bytes`, up to close_notify, and returns their length. The caller keeps the
@@ -356,11 +356,11 @@ impl<'b> Connection<'b> {
         if self.is_closed {
             return Err(RecordError::Ended);
         }
-        if self.writer.remaining() < KEPT {
+        if self.writer.remaining() < RESERVED {
             return Err(RecordError::KeyUsedUp);
         }
         let owes_update = self.incoming.owes_update;
-        out.reserve(answer_len(owes_update) + UPDATE_LEN)?;
+        out.reserve(preceding_update_len(owes_update) + UPDATE_LEN)?;
         if owes_update {
             self.append_update(KeyUpdateRequest::NotRequested, out);
         }
@@ -407,7 +407,7 @@ impl<'b> Connection<'b> {
         Ok(())
     }
 
-    /// Appends the records of a content, and before them a KeyUpdate, if one is owed or needed.
+    /// Appends the records of a content to `out`, and before them a KeyUpdate, if one is owed or needed.
     fn send_content(
         &mut self,
         content_type: ContentType,
@@ -426,7 +426,8 @@ impl<'b> Connection<'b> {
     {
         let cut = self.writer.cut(content.len(), padding);
         let updates = self.updates_before(cut.count() as u64)?;
-        let Some(len) = cut.records_len(answer_len(updates), content.len(), padding) else {
+        let Some(len) = cut.records_len(preceding_update_len(updates), content.len(), padding)
+        else {
             return Err(RecordError::OutOfMemory);
         };
         out.reserve(len)?;
@@ -438,24 +439,24 @@ impl<'b> Connection<'b> {
         Ok(())
     }
 
-    /// Returns whether a KeyUpdate comes before a content of so many records.
+    /// Returns whether a KeyUpdate comes before a content of this many records.
     fn updates_before(&self, records: u64) -> Result<bool, RecordError>
         ensures accepted { IsOk result ↔ MaySend self.now records }
         ensures refused { IsOkUnless result RecordError.KeyUsedUp }
         ensures updates { IfOk result (λ updates. updates ≡ updates_before self.now records) }
     {
-        if records > self.writer.limit().saturating_sub(KEPT) {
+        if records > self.writer.limit().saturating_sub(RESERVED) {
             return Err(RecordError::KeyUsedUp);
         }
         let updates = self.incoming.owes_update || records > self.remaining();
-        if updates && self.writer.remaining() < KEPT {
+        if updates && self.writer.remaining() < RESERVED {
             return Err(RecordError::KeyUsedUp);
         }
         Ok(updates)
     }
 
-    /// Appends a KeyUpdate under the old key to `out`, which has room for it, and continues under the next traffic secret. This
-    /// settles what is owed.
+    /// Appends a KeyUpdate under the old key to `out`, which has room for it, and continues under the next traffic secret. No
+    /// KeyUpdate is owed afterwards.
     fn append_update(&mut self, request: KeyUpdateRequest, out: &mut Vec<u8>)
         requires may { MayUpdate self.old.writer }
         requires room { vec_len out.old + 27 ≤ vec_capacity out.old }
@@ -471,9 +472,9 @@ impl<'b> Connection<'b> {
     }
 }
 
-/// The length in bytes of a KeyUpdate that comes before something else, if one does.
-fn answer_len(is_due: bool) -> usize
-    ensures { result ≡ cond is_due 27 0 }
+/// Returns the length in bytes of the record of a KeyUpdate that comes before a content or another KeyUpdate, or 0 if none comes.
+fn preceding_update_len(updates: bool) -> usize
+    ensures { result ≡ cond updates 27 0 }
 {
-    if is_due { UPDATE_LEN } else { 0 }
+    if updates { UPDATE_LEN } else { 0 }
 }

@@ -1,4 +1,4 @@
-//! Content types.
+//! The content types of protected records, and their values (RFC 8446 section 5.1).
 
 ghost use Rattle.std.specs.Prelude.{◌≡◌, ◌↔◌, IsTrue, IfSome, IfNone};
 ghost use Rattle.records.specs.Record.{type_code, IsUnknown};

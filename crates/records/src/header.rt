@@ -1,4 +1,4 @@
-//! The header of a record.
+//! The header of a protected record: it is made and read, and the length that it announces is checked (RFC 8446 section 5.2).
 
 ghost use Rattle.std.specs.Prelude.{◌≡◌, ◌+◌, ◌-◌, ◌^◌, ◌<◌, ◌≤◌, ◌↔◌, ◌++◌, length, take, IsErrOf, IsFalse, IsTrue, IsOk, IfOk, IfErr, IsSome, IfSome};
 ghost use Rattle.records.specs.Record.{header, body_len, IsHeader, IsWhole};
@@ -12,9 +12,10 @@ use std::marker::Model;
 /// The length in bytes of the longest encrypted record that a header may announce, for any cipher (RFC 8446 section 5.2).
 pub const MAX_ENCRYPTED_LEN: usize = 16640;
 
+/// The content type in the header of each protected record (RFC 8446 section 5.2).
 pub(crate) const APPLICATION_DATA: u8 = 23;
 
-/// Returns the header of a record with `len` bytes after it, which is the AAD of these bytes (RFC 8446 section 5.2).
+/// Returns the header of a protected record with `len` bytes after it. It is the AAD of these bytes (RFC 8446 section 5.2).
 pub fn header_of(len: usize) -> [u8; HEADER_LEN]
     requires { len < 65536 }
     ensures { result ≡ header len }
@@ -42,7 +43,7 @@ impl Model for Header {
 }
 
 impl Header {
-    /// Reads the header at the front of these bytes, or `None` if they are fewer.
+    /// Returns the header at the front of these bytes, or `None` if they are fewer than 5.
     pub(crate) fn read(bytes: &[u8]) -> Option<Header>
         ensures whole { IsSome result ↔ (HEADER_LEN ≤ length bytes.now) }
         ensures header { IfSome result (λ header. header ≡ take HEADER_LEN bytes.now) }
@@ -55,7 +56,7 @@ impl Header {
         })
     }
 
-    /// The length of the protected record that begins with this header, including the header.
+    /// Returns the length of the protected record that begins with this header, including the header, if the header is allowed.
     pub(crate) fn record_len(&self, size_limit: usize) -> Result<usize, RecordError>
         requires { size_limit ≤ 2 ^ 14 + 256 - 16 }
         ensures accepted { IsOk result ↔ IsHeader size_limit self.now }
@@ -66,13 +67,13 @@ impl Header {
         if content_type != APPLICATION_DATA || major != 3 || minor != 3 {
             return Err(RecordError::UnexpectedRecord);
         }
-        check_len(size_limit, self.payload_len)?;
+        check_encrypted_len(size_limit, self.payload_len)?;
         Ok(HEADER_LEN + self.payload_len)
     }
 }
 
-/// Checks the length of an encrypted record.
-pub(crate) fn check_len(size_limit: usize, len: usize) -> Result<(), RecordError>
+/// Checks the length that a header announces, that of the encrypted record after it (RFC 8446 section 5.2).
+pub(crate) fn check_encrypted_len(size_limit: usize, len: usize) -> Result<(), RecordError>
     requires { size_limit ≤ 2 ^ 14 + 256 - 16 }
     ensures accepted { IsOk result ↔ ((17 ≤ len) × (len ≤ size_limit + 16)) }
     ensures refused { IfErr result (RefusesLen size_limit len) }
@@ -89,7 +90,7 @@ pub(crate) fn check_len(size_limit: usize, len: usize) -> Result<(), RecordError
     Ok(())
 }
 
-/// The header of the record with this payload.
+/// Returns the header of the record with this payload, if its length is allowed.
 pub(crate) fn header_of_payload(
     size_limit: usize,
     payload: &[u8],
@@ -101,11 +102,11 @@ pub(crate) fn header_of_payload(
         → IfErr result (RefusesBytes size_limit (header (length payload.now) ++ payload.now)) }
     ensures too_long { IsErrOf result RecordError.EncryptedRecordTooLong ↔ (2 ^ 14 + 256 < length payload.now) }
 {
-    check_len(size_limit, payload.len())?;
+    check_encrypted_len(size_limit, payload.len())?;
     Ok(header_of(payload.len()))
 }
 
-/// Whether the inner plaintext of this record, which is whole, is within the size limit.
+/// Returns whether the inner plaintext of this record, which is whole, is within the size limit.
 pub(crate) fn is_within(size_limit: usize, bytes: &[u8]) -> bool
     requires limit { size_limit ≤ 2 ^ 14 + 1 }
     requires begins { BeginsProtected bytes.now (length bytes.now) }
@@ -115,7 +116,7 @@ pub(crate) fn is_within(size_limit: usize, bytes: &[u8]) -> bool
     bytes.len() <= HEADER_LEN + size_limit + TAG_LEN
 }
 
-/// The header of these bytes, if they are one whole record.
+/// Returns the header of these bytes, if they are one whole record.
 pub(crate) fn header_in(size_limit: usize, bytes: &[u8]) -> Result<[u8; HEADER_LEN], RecordError>
     requires { size_limit ≤ 2 ^ 14 + 256 - 16 }
     ensures accepted { IsOk result ↔ IsWhole size_limit bytes.now }

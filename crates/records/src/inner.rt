@@ -1,4 +1,4 @@
-//! The inner plaintext of a record.
+//! The inner plaintext of a record, which is content, type and padding: it is made, and taken apart (RFC 8446 section 5.4).
 
 ghost use Rattle.std.specs.Prelude.{◌≡◌, ◌≢◌, ◌+◌, ◌-◌, ◌<◌, ◌≤◌, ◌^◌, ◌↔◌, ℕ, length, take, replicate, IfSome, IfNone, IsOk, IfOk, IfErr};
 ghost use Rattle.records.specs.Record.{inner_plaintext, plaintext, type_code, IsAllowed};
@@ -8,7 +8,7 @@ use crate::alert::ALERT_LEN;
 use crate::content_type::ContentType;
 use crate::record_error::RecordError;
 
-/// The length of the inner plaintext of a content of this type and length.
+/// Returns the length of the inner plaintext of a content of this type and length, if it may be sent.
 pub(crate) fn inner_len(
     size_limit: usize,
     content_type: ContentType,
@@ -32,17 +32,18 @@ pub(crate) fn inner_len(
     Ok(content_len + 1 + padding)
 }
 
-/// Writes the type and the padding after a content, in place, so that the whole is an inner plaintext.
-pub(crate) fn pad(inner: &mut [u8], content_type: ContentType, content_len: usize)
+/// Writes the value of a content type and zeros after a content, which is the first `content_len` bytes of `inner`. `inner` is
+/// then the inner plaintext of that content and type, with the zeros as padding (RFC 8446 section 5.4).
+pub fn write_type_and_padding(inner: &mut [u8], content_type: u8, content_len: usize)
     requires { content_len < length inner.old }
-    ensures { inner.new ≡ plaintext (take content_len inner.old) (type_code content_type)
+    ensures { inner.new ≡ plaintext (take content_len inner.old) content_type
         (length inner.old - 1 - content_len) }
 {
-    inner[content_len] = content_type.code();
+    inner[content_len] = content_type;
     inner[content_len + 1..].fill(0);
 }
 
-/// The type and the length of the content of an inner plaintext.
+/// Returns the type and the length of the content of an inner plaintext.
 pub(crate) fn content_of(inner: &[u8]) -> Result<(ContentType, usize), RecordError>
     ensures found { IfOk result (λ found. (found.1 ≡ 0 → found.0 ≡ ContentType.ApplicationData)
         × (found.0 ≡ ContentType.Alert → found.1 ≡ 2)

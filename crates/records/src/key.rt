@@ -1,4 +1,4 @@
-//! A key that seals and opens records by their numbers.
+//! A key that seals and opens records under the numbers that the caller gives.
 
 ghost use Rattle.std.specs.Prelude.{◌≡◌, ℕ, List, ◌+◌, ◌-◌, ◌^◌, ◌<◌, ◌≤◌, ◌↔◌, ◌++◌, length, drop, take, slice_range, vec_len, vec_capacity, IsTrue, IsOk, IfOk, IsOkUnless, IfErr, IsErrOf, OnOk, OnErr};
 ghost use Rattle.aead_ciphers_base.specs.Aes.{aes};
@@ -15,7 +15,7 @@ ghost use Rattle.records.specs.Stream.{BeginsProtected};
 
 use crate::content_type::ContentType;
 use crate::header::{Header, header_in, header_of, header_of_payload, is_within};
-use crate::inner::{content_of, inner_len, pad};
+use crate::inner::{content_of, inner_len, write_type_and_padding};
 use crate::record_error::RecordError;
 use crate::{HEADER_LEN, MAX_SIZE_LIMIT, MIN_SIZE_LIMIT, TAG_LEN};
 use aead_ciphers::aead::{
@@ -26,7 +26,7 @@ use key_derivation::{Secret, Suite};
 use std::alloc::AllocError;
 use std::marker::Model;
 
-/// The AEAD algorithm of a suite.
+/// Returns the AEAD algorithm of a suite.
 fn algorithm_of(suite: Suite) -> &'static Algorithm
     ensures { result.now ≡ suite_algorithm suite }
 {
@@ -39,7 +39,7 @@ fn algorithm_of(suite: Suite) -> &'static Algorithm
 /// A key and IV of one direction, which seals and opens records by their numbers, in place or from one buffer to another, and
 /// without allocating.
 ///
-/// It keeps no count: not using a number twice for sealing is the caller's responsibility. A `Writer` and a `Reader` count.
+/// A `RecordKey` doesn't count records: the caller must not seal two records under one number. `Writer` and `Reader` count.
 #[derive(Drop)]
 pub struct RecordKey {
     key: LessSafeKey,
@@ -80,7 +80,7 @@ impl RecordKey {
         })
     }
 
-    /// The key of a traffic secret (RFC 8446 section 7.3).
+    /// Returns the key of a traffic secret (RFC 8446 section 7.3).
     pub(crate) fn from_secret(secret: &Secret) -> Self
         ensures { result ≡ secret_key secret.now }
     {
@@ -92,7 +92,7 @@ impl RecordKey {
         key
     }
 
-    /// The key of the next traffic secret of the direction, with the same size limit.
+    /// Returns the key of `secret`, the next traffic secret of the direction, with the size limit of this key.
     pub(crate) fn from_next_secret(&self, secret: &Secret) -> Self
         requires { self.now.algorithm ≡ suite_algorithm secret.now.suite }
         ensures { result ≡ rekeyed self.now (record_key secret.now) (record_iv secret.now) }
@@ -109,7 +109,7 @@ impl RecordKey {
         self.key.expanded().is_of(key) && self.iv == *iv
     }
 
-    /// The next key of the direction, with the same algorithm and size limit.
+    /// Returns the next key of the direction, with the algorithm and the size limit of this key.
     pub(crate) fn next(&self, key: &[u8], iv: [u8; NONCE_LEN]) -> Result<Self, RecordError>
         ensures accepted { IsOk result ↔ (length key.now ≡ key_len self.now.algorithm) }
         ensures refused { IsOkUnless result RecordError.KeyLength }
@@ -216,7 +216,7 @@ impl RecordKey {
         Ok(len)
     }
 
-    /// Writes the record with this number, which is the whole of `bytes`.
+    /// Seals the record with this number and this content. The record is the whole of `bytes`.
     pub(crate) fn seal_from(
         &self,
         number: u64,
@@ -261,7 +261,7 @@ impl RecordKey {
         };
     }
 
-    /// The length of the inner plaintext of a content of this type and length.
+    /// Returns the length of the inner plaintext of a content of this type and length, if it may be sent.
     pub(crate) fn inner_len(
         &self,
         content_type: ContentType,
@@ -322,7 +322,7 @@ impl RecordKey {
         Ok(len)
     }
 
-    /// Seals the record that is the whole of these bytes.
+    /// Seals the record with this number, which is the whole of `bytes` and whose content is in its place.
     pub(crate) fn seal_whole(
         &self,
         number: u64,
@@ -344,7 +344,7 @@ impl RecordKey {
         self.seal_body(number, &header, content_type, body, content_len);
     }
 
-    /// Seals the payload of a record that is the whole of these bytes.
+    /// Seals the payload of the record with this number, which is the whole of `body` and begins with the content.
     fn seal_body(
         &self,
         number: u64,
@@ -364,7 +364,7 @@ impl RecordKey {
     {
         let message_len = body.len() - TAG_LEN;
         let (message, tag_bytes) = body.split_at_mut(message_len);
-        pad(message, content_type, content_len);
+        write_type_and_padding(message, content_type.code(), content_len);
         let tag = self.seal_message(number, aad, message);
         tag_bytes.copy_from_slice(tag.as_ref());
     }
@@ -432,7 +432,7 @@ impl RecordKey {
     {
         let header = header_of_payload(self.size_limit, payload)?;
         let len = self.open_front(number, &header, payload, 0)?;
-        // A match, so that `opens` is proved of each case by itself: of both at once it remains open.
+        // Matched case by case because the prover does not find `opens` for both cases at once.
         match content_of(&payload[..len]) {
             Ok(found) => Ok(found),
             Err(error) => Err(error),
@@ -442,9 +442,9 @@ impl RecordKey {
     /// Like `open_at` from one buffer to another: the content is then `out[..length]`. `out` has room for the inner plaintext,
     /// 21 bytes fewer than the record has, and the bytes after that are unchanged.
     ///
-    /// Fails as `open_at` does, and with `NoRoom` if `out` is shorter and the header is right. Nothing is written before the record is authenticated. After `NoContentType`,
-    /// `UnexpectedType`, `EmptyContent` and `AlertLength`, its inner plaintext is at the front of `out`; any other failure leaves
-    /// `out` unchanged.
+    /// Fails as `open_at` does, and with `NoRoom` if `out` is shorter and the header is right. Nothing is written before the
+    /// record is authenticated. After `NoContentType`, `UnexpectedType`, `EmptyContent` and `AlertLength`, the record's inner
+    /// plaintext is at the front of `out`; any other failure leaves `out` unchanged.
     pub fn open_to(
         &self,
         number: u64,
@@ -465,7 +465,7 @@ impl RecordKey {
             return Err(RecordError::NoRoom);
         }
         let len = self.open_message_to(number, &header, bytes, out)?;
-        // A match, so that `opens` is proved of each case by itself: of both at once it remains open.
+        // Matched case by case because the prover does not find `opens` for both cases at once.
         match content_of(&out[..len]) {
             Ok(found) => Ok(found),
             Err(error) => Err(error),
@@ -568,7 +568,7 @@ impl RecordKey {
             self.now number (slice_range bytes.old at end) filled bytes.old bytes.new) }
     {
         let len = self.open_message(number, header, bytes, filled, at, end)?;
-        // A match, so that `opens` is proved of each case by itself: of both at once it remains open.
+        // Matched case by case because the prover does not find `opens` for both cases at once.
         match content_of(&bytes[filled..filled + len]) {
             Ok(read) => Ok(read),
             Err(error) => Err(error),

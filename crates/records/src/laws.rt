@@ -1,4 +1,4 @@
-//! Laws of the definitions: functions that do nothing, each of whose contracts states a law for its arguments.
+//! Laws of writing and reading: functions with empty bodies, whose contracts state what follows for their arguments.
 
 ghost use Rattle.std.specs.Prelude.{◌≡◌, [], ◌∷◌, false, ℕ, ◌<◌, ◌≤◌, All, AllPairs, List, length, map};
 ghost use Rattle.std.specs.List.{concat, range_with_len};
@@ -62,7 +62,7 @@ pub fn content_is_written_in_pieces(writer: &Writer)
         (record_count (piece_room writer.now.key.size_limit padding) n) ∷ []) }
 {}
 
-/// What is written of a content of any length, reading gives back in order: each of its pieces, under its type.
+/// Reading gives back, in order, what was written of a content of any length: each of its pieces, under its type.
 #[tactic(auto, using(crate::proofs::ContentLemmas::read_back))]
 pub fn reading_undoes_writing_content(writer: &Writer, reader: &Reader)
     requires { Follows writer.now reader.now }
@@ -77,8 +77,8 @@ pub fn reading_undoes_writing_content(writer: &Writer, reader: &Reader)
 {}
 
 /// Both ends of one secret agree after any number of updates. Whatever calls of `write`, `seal` and `update` followed
-/// `Writer::from_secret`, and whatever calls of `gather`, `read` and `update` followed `Reader::from_secret`: after n updates each
-/// holds the secret that is n updates after the first (RFC 8446 section 7.2), and its key and IV (section 7.3).
+/// `Writer::from_secret`, and whatever calls of `gather`, `read` and `update` followed `Reader::from_secret`: after n updates
+/// each holds the secret that is n updates after the first (RFC 8446 section 7.2), and its key and IV (section 7.3).
 #[tactic(auto, using(crate::proofs::RunLemmas::writer_at_nth_secret, crate::proofs::RunLemmas::reader_at_nth_secret, crate::proofs::RunLemmas::ends_agree))]
 pub fn ends_of_one_secret_agree(secret: &Secret)
     ensures writer { (asked : List (Event Inner)) (sent : List (Event (List ℕ)))

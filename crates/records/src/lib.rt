@@ -1,9 +1,10 @@
-//! The record layer of TLS 1.3 (RFC 8446 section 5), with AES-GCM, under a key and IV or the traffic secret of which both
-//! are derived.
+//! The record layer of TLS 1.3 (RFC 8446 section 5), with AES-GCM, under a key and an IV or under the traffic secret from
+//! which both are derived.
 //!
 //! A protected record is a header of 5 bytes and the encrypted record: the content, its type and zeros as padding, sealed under
-//! the number of the record with the header as AAD. `Writer` and `Reader` are the two ends; `RECORDS.md`, beside the README, has
-//! the format byte by byte. `connection::Connection` is one end of a connection after the handshake, over both.
+//! the number of the record with the header as AAD. `Writer` and `Reader` are the two ends of one direction. A
+//! `connection::Connection` is one end of a connection after the handshake, and has a `Reader` and a `Writer`. `RECORDS.md`,
+//! beside the README, has the format byte by byte.
 #![tactic(auto)]
 
 mod alert;
@@ -23,7 +24,7 @@ use aead_ciphers::aead::MAX_TAG_LEN;
 pub use alert::{CLOSE_NOTIFY, fatal_alert, plaintext_alert};
 pub use content_type::ContentType;
 pub use header::{MAX_ENCRYPTED_LEN, header_of};
-pub use inner::last_nonzero;
+pub use inner::{last_nonzero, write_type_and_padding};
 pub use key::RecordKey;
 pub use reader::{EarlyData, Reader};
 pub use record_error::RecordError;
@@ -51,5 +52,5 @@ pub const DEFAULT_LIMIT: u64 = 1 << 24;
 /// The length of a tag in bytes.
 const TAG_LEN: usize = MAX_TAG_LEN;
 
-/// The bytes of a record beside its content and its padding: its header, a content type and a tag.
+/// The length of a record in bytes without its content and its padding: a header, a content type and a tag.
 const RECORD_OVERHEAD: usize = HEADER_LEN + 1 + TAG_LEN;

@@ -1,4 +1,4 @@
-//! Reading records.
+//! Reading the records of one direction, each under the next number, over key updates (RFC 8446 sections 5.2, 5.3 and 7.2).
 
 ghost use Rattle.std.specs.Prelude.{◌≡◌, ◌+◌, ◌-◌, ◌^◌, ◌<◌, ◌≤◌, ◌↔◌, ℕ, List, Err, min, length, take, slice_range, None, Some, IsTrue, IsFalse, IsSome, IsNone, IfNone, IfSome, IsOk, IfOk, IsOkUnless, IsErrOf, IfErr, OnOk, OnErr, false};
 ghost use Rattle.aead_ciphers.specs.Algorithm.{key_len};
@@ -19,7 +19,7 @@ pub use early_data::EarlyData;
 use key_derivation::Secret;
 use std::marker::Model;
 
-/// The most records that a reader takes under one key, one fewer than there are numbers.
+/// The largest number of records that a reader takes under one key, one fewer than there are numbers.
 const MAX_RECORDS: u64 = u64::MAX;
 
 /// Reads records, each under the next number, over key updates.
@@ -68,10 +68,11 @@ impl Model for Reader {
 }
 
 impl Reader {
-    /// Creates a reader of a traffic secret, which gives the key and the IV, and those after each `update` (RFC 8446 sections 7.2
-    /// and 7.3). Its next record is record 0, with the limit of `new`.
+    /// Creates a reader from a traffic secret, from which the key and the IV are derived, and those after each `update` (RFC 8446
+    /// sections 7.2 and 7.3). Its next record is record 0, with the limit of `new`.
     ///
-    /// A secret that is not the next of this one, as that of application data after the handshake's, begins another reader.
+    /// A secret that does not follow from this one needs another reader: the secret of application data does not follow from that
+    /// of the handshake.
     pub fn from_secret(secret: Secret) -> Self
         ensures { result ≡ reader_of secret }
     {
@@ -288,7 +289,7 @@ impl Reader {
         self.settle(opened)
     }
 
-    /// Why the next record is not read, if the reader is closed or its key used up.
+    /// Returns why the next record is not read, if the reader is closed or its key is used up.
     fn refusal(&self) -> Option<RecordError>
         ensures none { IfNone result ((self.now.number < self.now.limit)
             × (self.now.number + 1 < 2 ^ 64) × IsFalse self.now.is_closed) }
@@ -327,7 +328,7 @@ impl Reader {
     /// Opens the next record, which is the whole of `bytes`, and returns its type and its content, which is then at the front
     /// of `bytes`.
     ///
-    /// It is `gather` for one record. The clauses of `gather` say what the buffer then holds.
+    /// This call does what `gather` does for one record. The clauses of `gather` say what the buffer then holds.
     pub fn read<'a>(&mut self, bytes: &'a mut [u8]) -> Result<(ContentType, &'a [u8]), RecordError>
         ensures reads { Reads self.old self.new bytes.old (lent_content result) }
         ensures closed { IsTrue self.old.is_closed → IsErrOf result RecordError.Closed }

@@ -1,4 +1,4 @@
-//! The error of sealing and opening records.
+//! The errors of sealing, opening and classifying records, with the alert that each calls for.
 
 ghost use Rattle.std.specs.Prelude.{◌≡◌};
 ghost use Rattle.records.specs.Refusals.{alert_of};

@@ -1,4 +1,4 @@
-//! The two sides of a connection.
+//! The two sides of a connection, and the size limit that each takes from the peer's RecordSizeLimit (RFC 8449 section 4).
 
 ghost use Rattle.std.specs.Prelude.{◌≡◌, ◌+◌, ◌^◌, ◌≤◌, ◌↔◌, min, IsOk, IfOk, IsOkUnless};
 
@@ -15,8 +15,9 @@ pub enum Side {
 impl Side {
     /// Returns the size limit for what this side sends to a peer that sent this RecordSizeLimit (RFC 8449 section 4).
     ///
-    /// A server takes a value above 2^14 + 1 as 2^14 + 1, since the client may know of an extension with longer records. Fails with
-    /// `PeerSizeLimit` for such a value at a client, and at either side for one below 64.
+    /// A server takes a value above 2^14 + 1 as 2^14 + 1, since the client may know of an extension with longer records.
+    ///
+    /// Fails with `PeerSizeLimit` for a value above 2^14 + 1 at a client, and for a value below 64 at either side.
     pub fn size_limit_of(self, sent: u16) -> Result<usize, RecordError>
         ensures accepted { IsOk result
             ↔ ((64 ≤ sent) × (self ≡ Side.Client → sent ≤ 2 ^ 14 + 1)) }

@@ -1,4 +1,4 @@
-//! The first record of a stream of bytes.
+//! The record that a stream of bytes begins with, found by its header: its kind and its length (RFC 8446 section 5).
 
 ghost use Rattle.std.specs.Prelude.{◌≡◌, ◌+◌, ◌≤◌, length, take, IfOk, IfErr};
 ghost use Rattle.records.specs.Record.{body_len};
@@ -64,7 +64,7 @@ pub fn classify(bytes: &[u8]) -> Result<Begins, RecordError>
     }
 }
 
-/// Returns what a stream begins with, whose header was read.
+/// Returns what a stream begins with, given its header, which was read.
 pub(crate) fn classify_headed(header: &Header, bytes: &[u8]) -> Result<Begins, RecordError>
     requires whole { HEADER_LEN ≤ length bytes.now }
     requires header { header.now ≡ take HEADER_LEN bytes.now }
@@ -81,7 +81,7 @@ pub(crate) fn classify_headed(header: &Header, bytes: &[u8]) -> Result<Begins, R
     Ok(Begins::Record(kind, len))
 }
 
-/// The kind of the record that begins with this header, and its length, including the header.
+/// Returns the kind of the record that begins with this header, and its length, including the header.
 fn kind_of(header: &Header) -> Result<(RecordKind, usize), RecordError>
     ensures kind { IfOk result (λ kind. IsHeaderOf kind.0 header.now) }
     ensures len { IfOk result (λ kind. kind.1 ≡ 5 + body_len header.now) }

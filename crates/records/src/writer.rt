@@ -1,4 +1,4 @@
-//! Writing records.
+//! Writing the records of one direction, each under the next number, over key updates (RFC 8446 sections 5.2, 5.3 and 7.2).
 
 ghost use Rattle.std.specs.Prelude.{◌≡◌, ◌+◌, ◌-◌, ◌^◌, ◌<◌, ◌≤◌, ◌↔◌, ◌++◌, min, length, drop, slice_range, vec_len, vec_capacity, None, IsSome, IsNone, IfSome, IsOk, IfOk, IsOkUnless, OnOk, IfErr, OnErr};
 ghost use Rattle.aead_ciphers.specs.Algorithm.{key_len};
@@ -53,10 +53,11 @@ impl Model for Writer {
 }
 
 impl Writer {
-    /// Creates a writer of a traffic secret, which gives the key and the IV, and those after each `update` (RFC 8446 sections 7.2
-    /// and 7.3). Its next record is record 0, with the limit of `new`.
+    /// Creates a writer from a traffic secret, from which the key and the IV are derived, and those after each `update` (RFC 8446
+    /// sections 7.2 and 7.3). Its next record is record 0, with the limit of `new`.
     ///
-    /// A secret that is not the next of this one, as that of application data after the handshake's, begins another writer.
+    /// A secret that does not follow from this one needs another writer: the secret of application data does not follow from that
+    /// of the handshake.
     pub fn from_secret(secret: Secret) -> Self
         ensures { result ≡ writer_of secret }
     {
@@ -171,9 +172,9 @@ impl Writer {
     /// Continues with the next key and IV of this direction, after a KeyUpdate or the last record of the handshake was written.
     /// The number and the count of records start again at 0 (RFC 8446 sections 5.3 and 7.2).
     ///
-    /// Fails with `HasSecret` if the writer was made of a secret, with `SameKey` if it has this key and this IV, whose numbers from
-    /// 0 on it has used or will use, and with `KeyLength` if `key` is not as long as the algorithm's keys. The writer is then
-    /// unchanged. A key of before the current one is not recognized: that no two keys are the same is the caller's responsibility.
+    /// Fails with `HasSecret` if the writer was made of a secret, with `SameKey` if it has this key and this IV, whose numbers
+    /// from 0 on it has used or will use, and with `KeyLength` if `key` is not as long as the algorithm's keys. The writer is
+    /// then unchanged. Keys before the current one are not remembered: the caller must not give one of them again.
     pub fn update_with(&mut self, key: &[u8], iv: [u8; NONCE_LEN]) -> Result<(), RecordError>
         ensures accepted { IsOk result ↔ (IsNone self.old.secret × (¬ HasKey self.old.key key.now iv)
             × (length key.now ≡ key_len self.old.key.algorithm)) }

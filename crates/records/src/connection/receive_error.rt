@@ -1,4 +1,4 @@
-//! Why no more is received.
+//! The reasons why a connection receives nothing more, with the alert that each calls for.
 
 ghost use Rattle.std.specs.Prelude.{◌≡◌};
 ghost use Rattle.records.specs.Handling.{received_alert};

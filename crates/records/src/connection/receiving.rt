@@ -1,4 +1,4 @@
-//! What an end receives, one record after another.
+//! Receiving the records of a connection one after another: application data, handshake messages and alerts.
 
 ghost use Rattle.std.specs.Prelude.{◌≡◌, ◌≢◌, ◌+◌, ◌||◌, ◌==◌, ◌≤◌, ◌<◌, [], length, take, drop, map, slice_index, false, IsFalse, IfOk, IfErr, IfSome, OnOk, OnErr, None, cond, vec_capacity};
 ghost use Rattle.records.specs.Connection.{Brings, Fails, FailsToBring, LeavesRecord, Rejects, Step, handling, receiving};
@@ -17,9 +17,10 @@ use std::alloc::Global;
 use tls_messages::MessageReader;
 use tls_messages::message_type::KEY_UPDATE;
 
-/// The alerts that are no errors (RFC 8446 section 6.1).
+/// The value of close_notify (RFC 8446 section 6.1).
 const CLOSE_NOTIFY: u8 = 0;
 
+/// The value of user_canceled (RFC 8446 section 6.1).
 const USER_CANCELED: u8 = 90;
 
 /// What was received: application data, and the handshake messages but for KeyUpdates, as tickets.
@@ -32,7 +33,7 @@ pub struct Received {
 }
 
 impl Received {
-    /// Nothing was received yet.
+    /// Creates an empty `Received`.
     pub fn new(alloc: Global) -> Self
         ensures { (result.application_data.items ≡ []) × (result.messages.items ≡ []) }
     {
@@ -51,7 +52,7 @@ pub(super) struct Incoming {
     pub(super) owes_update: bool,
     /// The number of KeyUpdates since the last application data that was not empty.
     pub(super) updates: u64,
-    /// The most of them.
+    /// The largest number of KeyUpdates that may come in a row.
     pub(super) update_bound: u64,
     /// Whether nothing more is received, after close_notify or an error.
     pub(super) is_ended: bool,
@@ -86,7 +87,7 @@ impl Incoming {
     }
 }
 
-/// Follows a KeyUpdate, unless too many came in a row, and appends another message.
+/// Follows a KeyUpdate, unless too many came in a row, or appends a message of another type to `handed`.
 fn handle_message(
     alloc: Global,
     incoming: &mut Incoming,
@@ -115,7 +116,7 @@ fn handle_message(
     Ok(())
 }
 
-/// Takes the messages of a handshake record: follows each KeyUpdate, and appends the others.
+/// Takes the messages of a handshake record: follows each KeyUpdate, and appends the messages of other types to `handed`.
 #[tactic(auto, using(crate::specs::Handling::none_handled))]
 fn receive_messages(
     alloc: Global,
@@ -144,7 +145,7 @@ fn receive_messages(
     Ok(())
 }
 
-/// Returns whether an alert is close_notify, the end of the data. Passes over user_canceled.
+/// Returns whether an alert is close_notify, the end of the data, and not user_canceled. Any other alert is an error.
 fn is_close_notify(alert: &[u8]) -> Result<bool, ReceiveError>
     requires { length alert.now ≡ 2 }
     ensures close_notify { IfOk result (λ is_end. slice_index alert.now 1 ≡ cond is_end 0 90) }
@@ -246,7 +247,7 @@ struct FirstRecord {
     len: usize,
 }
 
-/// The protected record at the front of these bytes, or `None` if it is not whole.
+/// Returns the protected record at the front of these bytes, or `None` if it is not whole.
 #[tactic(auto, unfolding(crate::specs::Stream::NeedsMore))]
 fn first_record(bytes: &[u8]) -> Result<Option<FirstRecord>, RecordError>
     ensures header { IfOk result (λ found. IfSome found (λ first. first.header ≡ take HEADER_LEN bytes.now)) }

@@ -1,4 +1,4 @@
-//! Early data that a server has rejected (RFC 8446 section 4.2.10).
+//! Passing over the records of early data that a server has rejected (RFC 8446 section 4.2.10).
 
 ghost use Rattle.std.specs.Prelude.{◌≡◌, ◌+◌, ◌-◌, ◌≤◌, ◌↔◌, length, slice_range, IsFalse, IsOk, IfOk, IfErr, IfNone, IfSome, OnOk, OnErr, false};
 ghost use Rattle.records.specs.EarlyData.{IsEncryptedRecord, ReadsPast, RefusesToSkip, counted_len, past_at};
@@ -11,7 +11,7 @@ use crate::record_error::RecordError;
 use crate::{RECORD_OVERHEAD, TAG_LEN};
 use std::marker::Model;
 
-/// What a server that has rejected early data still passes over (RFC 8446 section 4.2.10).
+/// How much early data a server that has rejected it still passes over (RFC 8446 section 4.2.10).
 ///
 /// Each record counts as its encrypted length less 17 bytes, those of a content type and a tag; padding counts, since it can't be
 /// told from content (section 4.6.1).
@@ -30,7 +30,8 @@ impl Model for EarlyData {
 }
 
 impl EarlyData {
-    /// Early data of which at most `max_early_data_size` bytes are passed over: those of the ticket that the client offers.
+    /// Creates the state of rejected early data, of which at most `max_early_data_size` bytes are passed over: the number in the
+    /// ticket that the client offers.
     pub fn rejected(max_early_data_size: u32) -> Self
         ensures { result ≡ record { remaining = max_early_data_size; is_over = false } }
     {

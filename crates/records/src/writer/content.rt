@@ -1,4 +1,4 @@
-//! A content of any length, as as many records as it takes (RFC 8446 section 5.1).
+//! Writing a content of any length, cut into as many records as it takes (RFC 8446 section 5.1).
 
 ghost use Rattle.std.specs.Prelude.{◌≡◌, ◌+◌, min, ◌*◌, ◌^◌, ◌<◌, ◌≤◌, ◌↔◌, ◌++◌, length, take, drop, vec_len, vec_capacity, IsOk, IfOk, IfSome, IfNone, OnOk, IfErr, OnErr};
 ghost use Rattle.std.specs.List.{concat};
@@ -22,14 +22,14 @@ pub(crate) struct Cut {
 }
 
 impl Cut {
-    /// The number of records.
+    /// Returns the number of records.
     pub(crate) fn count(self) -> usize
         ensures { result ≡ self.count }
     {
         self.count
     }
 
-    /// The length of the records of `len` bytes, behind so many other bytes, or `None` if it is no `usize`.
+    /// Returns the length of `before` bytes and the records of `len` bytes after them, or `None` if it doesn't fit in a `usize`.
     pub(crate) fn records_len(self, before: usize, len: usize, padding: usize) -> Option<usize>
         requires { padding ≤ 2 ^ 14 }
         ensures some { IfSome result (λ n. n ≡ before + (len + self.count * (padding + 22))) }
@@ -39,7 +39,7 @@ impl Cut {
         overhead.checked_add(len)?.checked_add(before)
     }
 
-    /// The part of a content that the i-th record has.
+    /// Returns the part of a content that is in record `i`, counted from 0.
     fn piece(self, content: &[u8], i: usize) -> &[u8]
         requires { i * self.room ≤ length content.now }
         ensures { result.now ≡ take self.room (drop (i * self.room) content.now) }
@@ -50,17 +50,20 @@ impl Cut {
 }
 
 impl Writer {
-    /// Seals a content of any length as as many records as it takes (RFC 8446 section 5.1), under the next numbers, and returns
+    /// Seals a content of any length in as many records as it takes (RFC 8446 section 5.1), under the next numbers, and returns
     /// their length in bytes.
     ///
     /// The records are at the front of `out`, one after another, each with `padding` zeros; the bytes after them are unchanged.
     /// Each but the last has as much of the content as the size limit allows. An empty content of application data is one record,
     /// and an alert is never cut.
     ///
-    /// A failure changes nothing and uses no number. In this order: `EmptyContent` for an empty alert or handshake content,
-    /// `AlertLength` for an alert that doesn't have two bytes, and `ContentTooLong` if the padding leaves no room for an alert or,
-    /// else, for one byte of the content; `KeyUsedUp` if fewer numbers are left than there are records; and `NoRoom` if `out` is
-    /// too short for all of them.
+    /// A failure changes nothing and uses no number. The errors come in this order:
+    ///
+    /// - `EmptyContent` for an empty alert or handshake content;
+    /// - `AlertLength` for an alert that doesn't have two bytes;
+    /// - `ContentTooLong` if the padding leaves no room for an alert or, with another type, for one byte of the content;
+    /// - `KeyUsedUp` if fewer numbers are left than there are records;
+    /// - `NoRoom` if `out` is too short for all records.
     pub fn seal_content(
         &mut self,
         content_type: ContentType,
@@ -101,8 +104,8 @@ impl Writer {
         }
     }
 
-    /// Appends a content of any length to `out`, as as many records as it takes (RFC 8446 section 5.1). They are those of
-    /// `seal_content`, and so are the errors, in the same order, but for the last.
+    /// Appends a content of any length to `out`, in as many records as it takes (RFC 8446 section 5.1). The records and the
+    /// errors are those of `seal_content`, in the same order, except for `NoRoom`.
     ///
     /// A failure appends nothing and uses no number. Fails with `OutOfMemory` only if the capacity of `out` is too small for the
     /// records.
@@ -147,7 +150,7 @@ impl Writer {
         Ok(cut)
     }
 
-    /// How a content of this length is cut, if its records have room for this padding and for a byte of it.
+    /// Returns how a content of this length is cut, if its records have room for this padding and for a byte of the content.
     pub(crate) fn cut(&self, len: usize, padding: usize) -> Cut
         requires { min len 1 + 1 + padding ≤ self.now.key.size_limit }
         ensures cut { IsCut self.now.key.size_limit padding len result }
@@ -267,7 +270,7 @@ fn append_pieces(
     }
 }
 
-/// The least that a record has of a content of `len` bytes.
+/// Returns the smallest part of a content of `len` bytes that a record may have.
 fn least_piece(content_type: ContentType, len: usize) -> usize
     ensures { result ≡ least_piece content_type len }
 {
@@ -277,7 +280,7 @@ fn least_piece(content_type: ContentType, len: usize) -> usize
     }
 }
 
-/// The number of records of `len` bytes, of which each has at most `room`.
+/// Returns the number of records of `len` bytes of content, of which each has at most `room` bytes.
 #[tactic(auto, using(crate::proofs::ContentLemmas::some_records))]
 fn record_count(room: usize, len: usize) -> usize
     requires { 0 < len → 0 < room }
