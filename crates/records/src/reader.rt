@@ -71,8 +71,8 @@ impl Reader {
     /// Creates a reader from a traffic secret, from which the key and the IV are derived, and those after each `update` (RFC 8446
     /// sections 7.2 and 7.3). Its next record is record 0, with the limit of `new`.
     ///
-    /// A secret that does not follow from this one needs another reader: the secret of application data does not follow from that
-    /// of the handshake.
+    /// A secret that no `update` reaches from this one, such as that of application data from that of the handshake, needs
+    /// another reader.
     pub fn from_secret(secret: Secret) -> Self
         ensures { result ≡ reader_of secret }
     {
