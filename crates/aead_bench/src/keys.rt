@@ -1,4 +1,4 @@
-//! Keys for the loops, of either crate.
+//! The keys of the loops: AES-GCM and header protection keys, of `aead_ciphers` or of `aead_ciphers_wide`.
 
 use aead_ciphers::aead::generic::LessSafeKey;
 use aead_ciphers::aead::quic::{self, HeaderProtectionKey};

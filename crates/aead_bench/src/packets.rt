@@ -1,4 +1,4 @@
-//! Loops over packets of QUIC.
+//! Loops that seal and open packets of QUIC, by `quic_packets` and by a key alone.
 
 use crate::keys::key_of_bytes;
 use crate::{NONCE, first_bytes};
@@ -152,7 +152,8 @@ pub extern "C" fn bench_seal_packet(times: u64, key: &[u8], buffer: &mut [u8]) -
     without_header(buffer)
 }
 
-/// Seals and opens what `bench_send_and_receive` sends and receives with a `LessSafeKey` of `aead_ciphers_wide`, without header protection.
+/// Seals and opens what `bench_send_and_receive` sends and receives with a `LessSafeKey` of `aead_ciphers_wide`, without header
+/// protection.
 #[unsafe(no_mangle)]
 pub extern "C" fn bench_seal_and_open_packet(times: u64, key: &[u8], buffer: &mut [u8]) -> u64 {
     let Ok(key) = key_of_bytes::<ExpandedKey>(key) else {

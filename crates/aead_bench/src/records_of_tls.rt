@@ -1,4 +1,4 @@
-//! Loops over records of TLS 1.3.
+//! Loops that seal and open records of TLS 1.3, by `records` and by a key alone.
 
 use crate::keys::{algorithm_of_key, key_of_bytes};
 use crate::{NONCE, first_bytes};

@@ -1,4 +1,4 @@
--- Keys that are written as text
+-- Keys that are written as text.
 
 use Rattle.std.specs.Prelude.{◌≡◌, ◌==◌, ◌+◌, ◌||◌, ℕ, Bool, List, count_by, length}
 use Rattle.std.specs.Char.{is_ascii_alphanumeric, is_ascii_whitespace}
@@ -7,6 +7,6 @@ use Rattle.std.specs.Char.{is_ascii_alphanumeric, is_ascii_whitespace}
 abbrev pub is_in_base64 : ℕ → Bool
 is_in_base64 c = (is_ascii_alphanumeric c || c == 43) || (c == 47 || c == 61)
 
--- these bytes are this many such characters, and white space
+-- these bytes are this many characters that the test accepts, and white space
 abbrev pub IsTextOf : (ℕ → Bool) → ℕ → List ℕ → Type 0
 IsTextOf is_character n text = (count_by is_character text ≡ n) × (n + count_by is_ascii_whitespace text ≡ length text)

@@ -1,4 +1,4 @@
--- What is odd about a passphrase
+-- Oddities of a passphrase.
 
 use Rattle.std.specs.Prelude.{◌∷◌, ◌||◌, ℕ, Bool, List, [], nat_eq}
 use Rattle.std.specs.List.{starts_with}

@@ -1,4 +1,4 @@
-//! Why the program ends early.
+//! The reasons for which the program ends early, with their messages and exit statuses.
 
 use crate::hints::KeyText;
 use crate::name::Name;
@@ -21,7 +21,7 @@ pub enum Place {
 pub enum Failure {
     /// The command line is not one that the program understands.
     Use(anyhow::Error),
-    /// The key file does not have 32 bytes, but the key as text, if it is known.
+    /// The key file does not have 32 bytes. It has the key as text, if that was recognized.
     KeyLength(Option<KeyText>),
     /// The passphrase is empty or too long.
     PassphraseLength,
@@ -31,7 +31,7 @@ pub enum Failure {
     SameFile,
     /// OUT is the file with the key or the passphrase.
     SecretFile,
-    /// OUT exists, and it is not known whether it is IN or the file with the key or the passphrase.
+    /// OUT exists, and it cannot be found out whether it is IN or the file with the key or the passphrase.
     Unidentified,
     /// OUT exists, and is a folder.
     Folder,

@@ -1,4 +1,5 @@
-//! Files by their names. The calls of std take a name as text, so a name that is not UTF-8 is rejected.
+//! Calls on files by their names: opening, creating, renaming and removing them, and what their metadata say. The calls of std
+//! take a name as text, so a name that is not UTF-8 is rejected.
 
 use crate::name::Name;
 use std::fs::{self, File, Metadata, Permissions};
@@ -40,7 +41,7 @@ pub fn are_same(first: &Metadata, second: &Metadata) -> bool {
     first.dev() == second.dev() && first.ino() == second.ino()
 }
 
-/// The name as text. Fails if it is not UTF-8.
+/// Returns the name as text. Fails if it is not UTF-8.
 fn text_of(name: &Name) -> io::Result<&str> {
     match str::from_utf8(name.as_bytes()) {
         Ok(text) => Ok(text),

@@ -1,4 +1,5 @@
-//! What is odd about the bytes of a key or a passphrase, so that probably another one is meant.
+//! Signs that the bytes of a file are not the key or the passphrase that its user means: a key that is written as text, and
+//! oddities of a passphrase.
 
 ghost use Rattle.std.specs.Prelude.{◌≡◌, ◌↔◌, ◌-◌, ◌≤◌, Contains, IsTrue, Some, None, count_by, length, slice_get};
 ghost use Rattle.std.specs.Char.{is_ascii_hexdigit, is_ascii_whitespace};
@@ -7,7 +8,7 @@ ghost use Rattle.seal_file.specs.Oddity.{has_byte_order_mark};
 
 use std::fmt;
 
-/// The most bytes in which the text of a key is found.
+/// The most bytes of a file that are searched for the text of a key.
 pub const MAX_KEY_TEXT_LEN: usize = 128;
 
 /// How many digits a key of 32 bytes has.
@@ -80,7 +81,7 @@ impl fmt::Display for KeyText {
     }
 }
 
-/// What a passphrase may have without its owner's knowing.
+/// Something that a passphrase may contain although its owner doesn't know it.
 #[derive(Clone, Copy)]
 pub enum Oddity {
     ByteOrderMark,
@@ -90,7 +91,7 @@ pub enum Oddity {
 }
 
 impl Oddity {
-    /// All of them.
+    /// All oddities.
     pub const ALL: [Oddity; 4] = [
         Oddity::ByteOrderMark,
         Oddity::Nul,
@@ -98,7 +99,7 @@ impl Oddity {
         Oddity::CarriageReturn,
     ];
 
-    /// Returns whether a passphrase has this. The byte order marks are those of UTF-8 and UTF-16.
+    /// Returns whether a passphrase has this oddity. The byte order marks are those of UTF-8 and UTF-16.
     pub fn is_in(self, passphrase: &[u8]) -> bool
         ensures byte_order_mark { self ≡ Oddity.ByteOrderMark → result ≡ has_byte_order_mark passphrase.now }
         ensures nul { self ≡ Oddity.Nul → (IsTrue result ↔ Contains passphrase.now 0) }

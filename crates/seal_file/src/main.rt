@@ -48,7 +48,7 @@ fn main(rt: HostRuntime) -> ExitCode {
     }
 }
 
-/// The request on the command line.
+/// Returns the request that the command line makes.
 fn read_request(rt: &HostRuntime) -> Result<Request, Failure> {
     let words = with_place(Place::Console, options::all_arguments(rt))?;
     Request::from_arguments(rt.alloc(), words)
@@ -93,7 +93,7 @@ fn run(rt: &HostRuntime, request: &Request) -> Result<(), Failure> {
     }
 }
 
-/// The outcome of a call, along with the place where it failed.
+/// Returns the outcome of a call. A failure gets the place where it happened.
 fn with_place<T>(place: Place, outcome: io::Result<T>) -> Result<T, Failure> {
     outcome.map_err(|error| Failure::Io(place, error))
 }
@@ -182,8 +182,8 @@ fn inspect(
     with_place(Place::Output, println!(rt; "nothing else was checked"))
 }
 
-/// Prints the version, the iterations if it is the one of passphrases, and the length of the file that a sealed file of this
-/// length has.
+/// Prints the version, the iterations if it is the version for passphrases, and the length that the sealed file opens to, by its
+/// own length.
 fn print_len(
     rt: &HostRuntime,
     metadata: Option<&Metadata>,
@@ -245,7 +245,7 @@ fn convert<'r>(rt: &'r HostRuntime, conversion: &'r Conversion) -> Result<(), Fa
     }
 }
 
-/// The failure that one stream would be two files: IN or FILE, and that with the key or the passphrase.
+/// Returns the failure that one stream is named for two files: for IN or FILE, and for that with the key or the passphrase.
 fn one_stream(name: Option<&Name>, role: &str, what: &str) -> Failure {
     Failure::Use(match name {
         Some(name) => anyhow!("{name} is both {role} and the {what}"),
@@ -267,8 +267,9 @@ enum Input<'r, 'a, R: Read + Drop> {
     Part(File, Range, &'a FileKey),
 }
 
-/// A conversion, with what it takes from the files that are read.
-// Two lifetimes: with one, the borrow checker does not cover `convert`, whose locals are borrowed beside its parameters.
+// `Job` has two lifetimes: with one, the borrow checker does not cover `convert`, whose locals are borrowed beside its
+// parameters.
+/// A conversion that is carried out, with the key or the passphrase and the metadata of the files that it reads.
 #[derive(Clone, Copy)]
 struct Job<'r, 'a> {
     rt: &'r HostRuntime,
@@ -288,7 +289,8 @@ impl<'r, 'a> Job<'r, 'a> {
         Source::new(self.rt, input, len, is_shown)
     }
 
-    /// Returns what is read of an open file: of a regular file that is sealed under a key, a range at its place.
+    /// Returns what is read from an open file. A range of a regular file that is sealed under a key is read at its place, and all
+    /// else as a stream.
     fn input_of(&self, file: File) -> Input<'r, 'a, File> {
         let is_file = self.inputs.input.is_some_and(|metadata| metadata.is_file());
         match (self.conversion.range, self.secret) {
@@ -311,7 +313,7 @@ impl<'r, 'a> Job<'r, 'a> {
         file.finish(self.rt, name, written, has_force)
     }
 
-    /// Seals or opens what is read.
+    /// Seals or opens `input`, and writes the result to `output`.
     fn seal_or_open<R: Read + Drop, W: Write>(
         &self,
         input: Input<'_, '_, R>,
@@ -378,7 +380,7 @@ impl<'r, 'a> Job<'r, 'a> {
     }
 }
 
-/// The failure of sealing or opening a stream, given whether reading it failed.
+/// Returns the failure of sealing or opening a stream, given whether reading it failed.
 fn stream_failure(error: FileError, has_read_failed: bool) -> Failure {
     match error {
         FileError::Io(error) if has_read_failed => Failure::Io(Place::Input, error),
@@ -388,7 +390,7 @@ fn stream_failure(error: FileError, has_read_failed: bool) -> Failure {
     }
 }
 
-/// A buffer as long as a chunk.
+/// Returns a buffer that is as long as a chunk.
 fn buffer(alloc: Global) -> io::Result<Vec<u8>> {
     let mut buf = Vec::new(alloc);
     buf.resize(CHUNK_LEN, 0)?;
@@ -427,7 +429,7 @@ fn write_range<W: Write>(
     Ok(())
 }
 
-/// The failure of reading a sealed file.
+/// Returns the failure of reading a sealed file.
 fn read_failure(error: FileError) -> Failure {
     match error {
         FileError::Io(error) => Failure::Io(Place::Input, error),

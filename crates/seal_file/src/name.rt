@@ -1,4 +1,4 @@
-//! Names of files from the command line: bytes that need not be UTF-8.
+//! Names of files from the command line, and the names of their folders: bytes that need not be UTF-8.
 
 ghost use Rattle.std.specs.Prelude.{◌≡◌, ◌≤◌, ◌++◌, ◌∷◌, ℕ, [], IfOk, true, false, length, nat_eq, take};
 ghost use Rattle.std.specs.List.{starts_with};
@@ -32,7 +32,7 @@ impl Name {
         self.bytes.is_empty()
     }
 
-    /// How many bytes of the name are that of its folder, with the `/` after it.
+    /// Returns how many bytes of the name are the name of its folder, with the `/` after it.
     fn folder_len(&self) -> usize
         ensures folder { IsFolderLen self.now.bytes.items result }
         ensures most { result ≤ length self.now.bytes.items }

@@ -1,4 +1,4 @@
-//! The command line.
+//! The command line: the text of `--help`, and the request that the arguments make.
 
 use crate::failure::{Failure, Place};
 use crate::name::Name;
@@ -117,7 +117,7 @@ pub enum Request {
     Convert(Conversion),
 }
 
-/// The command.
+/// A command: `seal`, `open`, `inspect` or `keygen`.
 #[derive(Clone, Copy)]
 enum Verb {
     Seal,
@@ -150,7 +150,7 @@ impl fmt::Display for Valued {
     }
 }
 
-/// The arguments so far.
+/// The arguments that were read so far.
 #[derive(Drop)]
 struct Arguments {
     verb: Option<Verb>,
@@ -181,7 +181,7 @@ pub fn all_arguments(rt: &HostRuntime) -> io::Result<Vec<Name>> {
     Ok(all)
 }
 
-/// The argument with this number, if there is one.
+/// Returns the argument with this number, if there is one.
 fn argument(rt: &HostRuntime, i: usize) -> io::Result<Option<Name>> {
     let mut bytes = Vec::new(rt.alloc());
     let mut room = 256usize;
@@ -199,7 +199,7 @@ fn argument(rt: &HostRuntime, i: usize) -> io::Result<Option<Name>> {
     Err(io::Error::from(io::ErrorKind::OutOfMemory))
 }
 
-/// The number that a word is.
+/// Returns the number that a word writes in decimal digits.
 fn number_in(word: &Name) -> Result<u64, Failure> {
     let number = str::from_utf8(word.as_bytes())
         .ok()
@@ -207,12 +207,12 @@ fn number_in(word: &Name) -> Result<u64, Failure> {
     number.ok_or(Failure::Use(anyhow!("--range takes two numbers: {word} is none")))
 }
 
-/// The failure to copy a word.
+/// Returns the failure to allocate memory for the copy of a word.
 fn out_of_memory(_error: AllocError) -> Failure {
     Failure::Io(Place::Console, io::Error::from(io::ErrorKind::OutOfMemory))
 }
 
-/// Puts the value of an option where none is yet.
+/// Keeps the value of an option. Fails if the option already has one.
 fn set<T: Drop>(place: &mut Option<T>, option: Valued, value: T) -> Result<(), Failure> {
     if place.is_some() {
         return Err(Failure::Use(anyhow!("{option} is given twice")));
@@ -221,7 +221,7 @@ fn set<T: Drop>(place: &mut Option<T>, option: Valued, value: T) -> Result<(), F
     Ok(())
 }
 
-/// Puts the name of a file, the value of an option, where none is yet.
+/// Keeps the value of an option that is the name of a file. Fails if the option already has one, or if the name is empty.
 fn set_name(place: &mut Option<Name>, option: Valued, name: Name) -> Result<(), Failure> {
     if name.is_empty() {
         return Err(Failure::Use(anyhow!("{option} is given an empty file name")));
@@ -340,7 +340,7 @@ impl Arguments {
         Ok(())
     }
 
-    /// Takes the value of an option in whose word it is.
+    /// Takes the value of an option that is in the same word as the option.
     fn take_joined(
         &mut self,
         alloc: Global,
@@ -393,7 +393,7 @@ impl Arguments {
             || self.has_progress
     }
 
-    /// Returns the request.
+    /// Returns the request that the arguments make.
     fn request(self) -> Result<Request, Failure> {
         if self.has_help {
             return Ok(Request::Help);
@@ -538,7 +538,7 @@ impl SecretFile {
         }
     }
 
-    /// Returns what the file has.
+    /// Returns the word for what the file contains.
     pub fn kind_name(&self) -> &'static str {
         match self {
             SecretFile::Key(_) => "key",
@@ -547,7 +547,7 @@ impl SecretFile {
     }
 }
 
-/// Where the key or the passphrase is: one of the two is given.
+/// Returns where the key or the passphrase is. Fails unless exactly one of the two options is given.
 fn secret_file_of(
     key_file: Option<Name>,
     passphrase_file: Option<Name>,
@@ -563,13 +563,13 @@ fn secret_file_of(
     }
 }
 
-/// Whether the argument is an option: it begins with `-`, and is longer.
+/// Returns whether the argument is an option: it begins with `-`, and is not `-` alone.
 fn is_option(word: &Name) -> bool {
     let bytes = word.as_bytes();
     bytes.len() > 1 && bytes[0] == b'-'
 }
 
-/// Whether the name is one of standard input.
+/// Returns whether this is a name of standard input.
 fn is_stdin(name: &Name) -> bool {
     matches!(
         name.as_bytes(),
@@ -577,12 +577,12 @@ fn is_stdin(name: &Name) -> bool {
     )
 }
 
-/// The file with this name, or `None` if the name is one of standard input.
+/// Returns the name of a file, or `None` for a name of standard input.
 fn file_of(name: Name) -> Option<Name> {
     if is_stdin(&name) { None } else { Some(name) }
 }
 
-/// Whether the name is one of standard output.
+/// Returns whether this is a name of standard output.
 fn is_stdout(name: &Name) -> bool {
     matches!(
         name.as_bytes(),
@@ -590,24 +590,24 @@ fn is_stdout(name: &Name) -> bool {
     )
 }
 
-/// The file with this name, or `None` if the name is one of standard output.
+/// Returns the name of a file, or `None` for a name of standard output.
 fn output_of(name: Name) -> Option<Name> {
     if is_stdout(&name) { None } else { Some(name) }
 }
 
-/// The key file with this name.
+/// Returns the key file with this name.
 fn key_file_named(name: Name) -> KeyFile {
     KeyFile {
         name: file_of(name),
     }
 }
 
-/// The failure that a word is no option.
+/// Returns the failure that a word is no option.
 fn unknown_option(word: &Name) -> Failure {
     Failure::Use(anyhow!("unknown option {word}"))
 }
 
-/// The option with this long name that takes a value.
+/// Returns the option with this long name, if it takes a value.
 fn long_option(name: &[u8]) -> Option<Valued> {
     match name {
         b"--key" => Some(Valued::Key),

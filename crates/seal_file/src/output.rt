@@ -1,4 +1,4 @@
-//! Files that are written whole or not at all.
+//! The files that the program creates: whether a name may be written, and files that are written whole or not at all.
 
 ghost use Rattle.std.specs.Prelude.{IfSome, IsSome, IsTrue};
 ghost use Rattle.std.specs.Fs.{IsFile, file_type};
@@ -25,8 +25,8 @@ pub struct SyncedFile {
     name: Name,
 }
 
-/// The files that are read, of which OUT is to be none. One is `None` if it cannot be identified: standard input, if /proc is not
-/// mounted.
+/// The files that are read, from which OUT must differ. A file is `None` if it cannot be identified, as standard input cannot
+/// where /proc is not mounted.
 #[derive(Clone, Copy)]
 pub struct Inputs<'a> {
     /// IN.
@@ -36,7 +36,7 @@ pub struct Inputs<'a> {
 }
 
 impl Inputs<'_> {
-    /// Checks that a file is none of these.
+    /// Checks that a file is neither IN nor that with the key or the passphrase.
     fn check_not_input(self, there: &Metadata) -> Result<(), Failure> {
         if self.input.is_some_and(|from| files::are_same(from, there)) {
             return Err(Failure::SameFile);
@@ -47,8 +47,8 @@ impl Inputs<'_> {
         Ok(())
     }
 
-    /// Returns whether IN and the secret are one stream, so that neither is the whole of it. A regular file that both name is
-    /// opened twice, and isn't.
+    /// Returns whether IN and the secret come from one stream, so that neither could be read whole. A regular file that both name
+    /// is opened twice, and then each is a stream of its own.
     pub fn are_one_stream(self, have_names: bool) -> bool
         ensures known { IsTrue result → IsSome self.entry.input × IsSome self.entry.secret }
         ensures stream { IsTrue result → IsTrue have_names → IfSome self.entry.input (λ it. ¬ IsFile (file_type it.now)) }
@@ -60,7 +60,7 @@ impl Inputs<'_> {
         !are_read_twice && files::are_same(input, secret)
     }
 
-    /// Checks that each can be identified.
+    /// Checks that both files can be identified.
     fn check_known(self) -> Result<(), Failure> {
         if self.input.is_none() || self.secret.is_none() {
             return Err(Failure::Unidentified);
@@ -76,12 +76,12 @@ pub enum Access {
     New,
     /// Its owner alone, who reads and writes it.
     Owner,
-    /// Who may do so with the file that it replaces, which has this mode and this group.
+    /// Whoever may do so with the file that it replaces, which has this mode and this group.
     Replaced { mode: u32, group: u32 },
 }
 
 impl Access {
-    /// The mode that the file is created with, less the process's umask.
+    /// Returns the mode that the file is created with, from which the system takes the bits of the process's umask.
     fn first_mode(self) -> u32 {
         match self {
             Access::New => 0o666,
@@ -89,10 +89,10 @@ impl Access {
         }
     }
 
-    /// Returns the mode that a file gets that was created with `first_mode`.
+    /// Returns the mode that a file gets in the end, which was created with `first_mode`.
     ///
-    /// If its group is not that of the file that it replaces, whoever was of the group may now be one of the others, and the other
-    /// way round: group and others get what both had.
+    /// If the file has another group than the one that it replaces, a user of the old group may now be one of the others, and the
+    /// reverse. So the group and the others get only the permissions that both had.
     fn last_mode(self, file: &File) -> io::Result<u32> {
         match self {
             Access::New => Ok(files::mode_of(&file.metadata()?)),
@@ -107,9 +107,9 @@ impl Access {
         }
     }
 
-    /// Lets the owner of a new file alone read it, before a byte is written. Returns the mode that it is to get.
+    /// Lets only the owner of a new file read it, before a byte is written. Returns the mode that the file gets in the end.
     ///
-    /// A file system without modes refuses that. There the file stays as readable as any, unless it holds a key.
+    /// A file system without modes refuses that. There the file stays as readable as any other, but for a key it is an error.
     fn hide(self, file: &File) -> io::Result<u32> {
         let mode = self.last_mode(file)?;
         match files::set_mode(file, files::OWNER_ALONE) {
@@ -127,8 +127,8 @@ fn is_unsupported(error: &io::Error) -> bool {
     )
 }
 
-/// Checks that OUT is not a file that is read, a folder or what no file replaces and, unless forced, does not exist. Returns who
-/// may access the new file.
+/// Checks that OUT may be written: it is not a file that is read, a folder, or something that no file replaces, and unless
+/// `has_force` is set it does not exist. Returns who may access the new file.
 pub fn check_target(
     rt: &HostRuntime,
     target: &Name,
@@ -160,8 +160,8 @@ pub fn check_target(
     })
 }
 
-/// Checks that the name is none that a file never takes: that of a device, a pipe or a socket, or a link into /proc, which is the
-/// system's.
+/// Checks that a file may take this name: it is not the name of a device, a pipe or a socket, and does not lead into /proc, which
+/// belongs to the system.
 fn check_replaceable(rt: &HostRuntime, target: &Name) -> Result<(), Failure> {
     if let Ok(there) = files::metadata_of(rt, target)
         && !there.is_file()
@@ -181,7 +181,7 @@ pub fn check_key_target(rt: &HostRuntime, target: &Name) -> Result<(), Failure> 
     check_free(rt, target)
 }
 
-/// Checks that no file has this name, and no link, which may lead to no file.
+/// Checks that neither a file nor a link has this name. The link may lead to no file.
 fn check_free(rt: &HostRuntime, target: &Name) -> Result<(), Failure> {
     match files::exists(rt, target) {
         Ok(true) => Err(Failure::Exists),
@@ -190,12 +190,12 @@ fn check_free(rt: &HostRuntime, target: &Name) -> Result<(), Failure> {
     }
 }
 
-/// The failure of writing OUT or the key file.
+/// Returns the failure of writing OUT or the key file.
 fn at_output(error: io::Error) -> Failure {
     Failure::Io(Place::Output, error)
 }
 
-/// Removes a new file after another failure. Warns if that fails too, so that the file is left.
+/// Removes a new file after another failure. If that fails too, the file is left, and the program warns of it.
 fn remove_or_warn(rt: &HostRuntime, name: &Name) {
     if let Err(error) = files::remove(rt, name) {
         let _ = eprintln!(rt;
@@ -225,8 +225,8 @@ impl NewFile {
         }
     }
 
-    /// Gives the file its name, as `SyncedFile::name_as` does, and waits until the name has reached the device. Warns if it may not
-    /// read the folder, and so cannot. Removes the file if writing it failed.
+    /// Gives the file its name, as `SyncedFile::name_as` does, and waits until the name has reached the device. The program warns
+    /// if it may not read the folder, and so cannot wait. If writing the file failed, it removes the file.
     pub fn finish(
         self,
         rt: &HostRuntime,
@@ -285,8 +285,8 @@ impl Write for NewFile {
 }
 
 impl SyncedFile {
-    /// Gives the file its name. It replaces another file only if forced. If this fails, the file is removed. Returns the failure
-    /// to remove the name that it had, if it has that name too.
+    /// Gives the file its name. It replaces another file only if `has_force` is set. If this fails, the file is removed. Returns
+    /// the failure to remove the name that the file had before, if it still has that name.
     fn name_as(
         self,
         rt: &HostRuntime,
@@ -314,8 +314,8 @@ impl SyncedFile {
 
 /// Renames a file. Fails if another file or a link has the new name.
 ///
-/// The file first gets it as a second name, and then loses the first. If the file system has no second names, an empty file takes
-/// the name, which is then replaced. Returns the error of removing the first name, if the file keeps it.
+/// The file first gets the new name as a second one, and then loses the old one. If the file system has no hard links, an empty
+/// file takes the new name, and is then replaced. Returns the error of removing the old name, if the file keeps it.
 fn rename_no_replace(rt: &HostRuntime, from: &Name, to: &Name) -> io::Result<Option<io::Error>> {
     match files::link(rt, from, to) {
         Ok(()) => Ok(files::remove(rt, from).err()),

@@ -1,4 +1,4 @@
-//! A reader that shows how much was read, and records whether the last call failed.
+//! A reader that shows on standard error how much was read, and records whether the last call failed.
 
 ghost use Rattle.std.specs.Prelude.{◌≡◌, ◌≤◌};
 
@@ -43,7 +43,7 @@ impl<'a, R: Read + Drop> Source<'a, R> {
         }
     }
 
-    /// Returns whether the last call failed. One that is interrupted, and so repeated, is not the last.
+    /// Returns whether the last call failed. A call that is interrupted is repeated, and so is not the last.
     pub fn has_failed(&self) -> bool
         ensures { result ≡ self.now.has_failed }
     {
@@ -99,7 +99,7 @@ impl fmt::Display for Bar {
     }
 }
 
-/// The percentage that these bytes are of `len`, at most 100.
+/// Returns the percentage of `len` that was read, at most 100.
 fn percent_of(read: u64, len: u64) -> u64
     ensures { result ≤ 100 }
 {

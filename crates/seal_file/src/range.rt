@@ -1,18 +1,18 @@
-//! A part of a file.
+//! A range of the bytes of a file, and a writer that passes on only the bytes of a range.
 
 use std::io::{self, Write};
 
-/// The bytes of a file from one place on.
+/// The bytes of a file from a place on, up to a number of bytes.
 #[derive(Clone, Copy)]
 pub struct Range {
     /// The place of the first byte.
     pub start: u64,
-    /// How many bytes, at most.
+    /// The number of bytes, of which the file may have fewer.
     pub len: u64,
 }
 
 impl Range {
-    /// Returns what is left of the range after its first bytes.
+    /// Returns the range without its first `count` bytes.
     pub fn after(self, count: usize) -> Range {
         Range {
             start: self.start.saturating_add(count as u64),
@@ -21,7 +21,7 @@ impl Range {
     }
 }
 
-/// A writer that passes on the bytes of a range alone.
+/// A writer that passes on only the bytes of a range.
 #[derive(Drop)]
 pub struct RangeWriter<'a, W: Write> {
     inner: &'a mut W,
@@ -30,7 +30,7 @@ pub struct RangeWriter<'a, W: Write> {
 }
 
 impl<'a, W: Write> RangeWriter<'a, W> {
-    /// Creates a writer that passes on the bytes of a range to `inner`.
+    /// Creates a writer that passes on only the bytes of a range to `inner`.
     pub fn new(inner: &'a mut W, range: Range) -> RangeWriter<'a, W> {
         RangeWriter {
             inner,

@@ -1,4 +1,4 @@
-//! AES-GCM, by the keys of `aead_ciphers` and of `aead_ciphers_wide`.
+//! Vectors of AES-GCM, which a key of `aead_ciphers` and one of `aead_ciphers_wide` seal and open.
 
 use crate::NoAnswer;
 use aead_ciphers::aead::{
@@ -22,7 +22,7 @@ fn unbound_key(bytes: &[u8]) -> Result<UnboundKey, NoAnswer> {
     Ok(UnboundKey::new(algorithm_of_key(bytes), bytes)?)
 }
 
-/// What is said of a vector for which the two keys don't make the same.
+/// Returns the response to a vector for which the two keys have different results.
 fn differs(alloc: Global) -> Result<String, NoAnswer> {
     Ok(format!(in alloc; "the keys differ")?)
 }

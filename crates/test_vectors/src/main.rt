@@ -1,4 +1,4 @@
-//! The program `test_vectors`: answers the test vectors on standard input, one a line.
+//! The program `test_vectors`: reads test vectors on standard input, one a line, and writes a line with the result of each.
 #![tactic(auto)]
 
 mod gcm;
@@ -12,12 +12,12 @@ use std::alloc::{AllocError, Global};
 use std::io::{self, BufRead, BufReader, BufWriter, Write};
 use std::str::SplitWhitespace;
 
-/// Why a vector has no answer of its own.
+/// The reason why a vector has no result.
 #[derive(Drop)]
 enum NoAnswer {
     /// The line is no vector, or memory was refused.
     NoVector,
-    /// A call refuses it: a key, a nonce, a tag or an output of this length.
+    /// A call refuses the length of a key, a nonce, a tag or an output.
     Refused,
 }
 

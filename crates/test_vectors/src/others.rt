@@ -1,4 +1,4 @@
-//! The ChaCha20 stream, HMAC and HKDF.
+//! Vectors of the ChaCha20 stream, of HMAC and of HKDF.
 
 use crate::NoAnswer;
 use aead_ciphers::aead::Nonce;
