@@ -128,16 +128,19 @@ def map_of(crate):
 
 
 def unknown_names(text):
-    """What is wrong with names in the sentences: each part of one is in a source, a definition or a proof, or names a file."""
+    """What is wrong with names in the sentences: each part of one is in a source, a definition or a proof, or names a file, and
+    below the heading of the map, each part of one is in the map."""
     paths = [path for folder in ("src", "specs", "proofs") for path in TOP.glob(f"crates/*/{folder}/**/*.*t")]
     known = set(re.findall(r"\w+", " ".join(path.read_text(encoding="utf-8") for path in paths)))
     known |= {part for path in paths for part in path.relative_to(TOP).with_suffix("").parts}
     known |= {path.name for path in TOP.iterdir()}
-    inside = [part.span() for part in MAP.finditer(text)]
+    maps = list(MAP.finditer(text))
+    of_map = set(re.findall(r"\w+", " ".join(part[0] for part in maps)))
     for name in NAME.finditer(text):
-        is_of_map = any(start <= name.start() < end for start, end in inside)
+        is_of_map = any(part.start() <= name.start() < part.end() for part in maps)
         parts = () if is_of_map else re.split("::|/", name[1])
-        if any(part not in known and not ANY.fullmatch(part) for part in parts):
+        names = of_map if "\n## Map\n" in text[: name.start()] else known
+        if any(part not in names and not ANY.fullmatch(part) for part in parts):
             yield Fault(f"{line_of(DESIGN, text, name.start())}: no source has the name {name[1]}")
 
 
