@@ -120,15 +120,19 @@ static void add_aad(EVP_CIPHER_CTX *ctx) {
     CHECK(update(ctx, NULL, it.aad + first, it.aad_len - first));
 }
 
-/* Seals the message in so many pieces. */
+/* Updates by as many bytes as the message has, in so many pieces. */
+static void update_in_pieces(EVP_CIPHER_CTX *ctx, uint8_t *to, const uint8_t *from, unsigned pieces) {
+    size_t len;
+    for (size_t done = 0; pieces > 0; pieces--, done += len) {
+        len = pieces == 1 ? it.len - done : some((uint32_t)(it.len - done) + 1);
+        CHECK(update(ctx, to + done, from + done, len));
+    }
+}
+
 static void seal(const EVP_CIPHER *cipher, uint8_t *to, uint8_t *tag, const uint8_t *text, unsigned pieces) {
     EVP_CIPHER_CTX *ctx = context(cipher, true);
-    size_t done = 0, len;
     add_aad(ctx);
-    for (; pieces > 0; pieces--, done += len) {
-        len = pieces == 1 ? it.len - done : some((uint32_t)(it.len - done) + 1);
-        CHECK(update(ctx, to + done, text + done, len));
-    }
+    update_in_pieces(ctx, to, text, pieces);
     CHECK(final(ctx) && ctrl(ctx, EVP_CTRL_AEAD_GET_TAG, TAG, tag));
     EVP_CIPHER_CTX_free(ctx);
 }
@@ -256,93 +260,55 @@ static void made_nonces(const pair *by) {
     EVP_CIPHER_CTX_free(theirs);
 }
 
-/* The calls that are refused, each over a context with a key and a nonce. */
+/* The steps before a refusal, each over a context with a key and a nonce. A step returns whether it was taken. */
+
+typedef bool step(EVP_CIPHER_CTX *);
 
 static bool other_nonce_len(EVP_CIPHER_CTX *ctx) { return ctrl(ctx, EVP_CTRL_AEAD_SET_IVLEN, 16, NULL); }
+static bool set_tag(EVP_CIPHER_CTX *ctx) { return ctrl(ctx, EVP_CTRL_AEAD_SET_TAG, TAG, it.tag); }
+static bool set_short_tag(EVP_CIPHER_CTX *ctx) { return ctrl(ctx, EVP_CTRL_AEAD_SET_TAG, 12, it.tag); }
+static bool get_tag(EVP_CIPHER_CTX *ctx) { return ctrl(ctx, EVP_CTRL_AEAD_GET_TAG, TAG, out); }
 
-static bool short_tag(EVP_CIPHER_CTX *ctx) { return ctrl(ctx, EVP_CTRL_AEAD_SET_TAG, 12, it.tag); }
-
-/* The first 12 to 15 bytes of a tag are given, and no fewer. */
-static bool short_tag_of_sealing(EVP_CIPHER_CTX *ctx) {
+/* The first 12 to 15 bytes of a tag are given. */
+static bool get_parts(EVP_CIPHER_CTX *ctx) {
     uint8_t tag[TAG], part[TAG];
-    CHECK(final(ctx) && ctrl(ctx, EVP_CTRL_AEAD_GET_TAG, TAG, tag));
+    bool are_right = ctrl(ctx, EVP_CTRL_AEAD_GET_TAG, TAG, tag);
     for (int len = 12; len < TAG; len++) {
-        CHECK(ctrl(ctx, EVP_CTRL_AEAD_GET_TAG, len, part) && memcmp(part, tag, (size_t)len) == 0);
+        are_right &= ctrl(ctx, EVP_CTRL_AEAD_GET_TAG, len, part) && memcmp(part, tag, (size_t)len) == 0;
     }
-    return ctrl(ctx, EVP_CTRL_AEAD_GET_TAG, 11, out);
+    return are_right;
 }
 
-static bool tag_while_sealing(EVP_CIPHER_CTX *ctx) { return ctrl(ctx, EVP_CTRL_AEAD_SET_TAG, TAG, it.tag); }
+static bool get_11_bytes(EVP_CIPHER_CTX *ctx) { return ctrl(ctx, EVP_CTRL_AEAD_GET_TAG, 11, out); }
+static bool text(EVP_CIPHER_CTX *ctx) { return update(ctx, out, it.text, 20); }
+static bool aad(EVP_CIPHER_CTX *ctx) { return update(ctx, NULL, it.aad, 20); }
+static bool fix_nonce(EVP_CIPHER_CTX *ctx) { return ctrl(ctx, EVP_CTRL_GCM_SET_IV_FIXED, -1, it.nonce); }
+static bool fix_4_bytes(EVP_CIPHER_CTX *ctx) { return ctrl(ctx, EVP_CTRL_GCM_SET_IV_FIXED, 4, it.nonce); }
+static bool make_nonce(EVP_CIPHER_CTX *ctx) { return ctrl(ctx, EVP_CTRL_GCM_IV_GEN, NONCE, out); }
 
-static bool tag_before_the_end(EVP_CIPHER_CTX *ctx) {
-    CHECK(update(ctx, out, it.text, 20));
-    return ctrl(ctx, EVP_CTRL_AEAD_GET_TAG, TAG, out);
+static bool lose_key(EVP_CIPHER_CTX *ctx) {
+    return EVP_CIPHER_CTX_reset(ctx) && EVP_EncryptInit_ex(ctx, pairs[0].ours, NULL, NULL, it.nonce);
 }
 
-static bool tag_of_the_last_message(EVP_CIPHER_CTX *ctx) {
-    CHECK(ctrl(ctx, EVP_CTRL_GCM_SET_IV_FIXED, -1, it.nonce) && ctrl(ctx, EVP_CTRL_GCM_IV_GEN, NONCE, out));
-    CHECK(update(ctx, out, it.text, 20) && final(ctx) && ctrl(ctx, EVP_CTRL_AEAD_GET_TAG, TAG, out));
-    CHECK(ctrl(ctx, EVP_CTRL_GCM_IV_GEN, NONCE, out) && update(ctx, out, it.text, 20));
-    return ctrl(ctx, EVP_CTRL_AEAD_GET_TAG, TAG, out);
+static bool lose_nonce(EVP_CIPHER_CTX *ctx) {
+    return EVP_CIPHER_CTX_reset(ctx) && EVP_EncryptInit_ex(ctx, pairs[0].ours, NULL, it.key, NULL);
 }
 
-static bool no_key(EVP_CIPHER_CTX *ctx) {
-    CHECK(EVP_CIPHER_CTX_reset(ctx) && EVP_EncryptInit_ex(ctx, pairs[0].ours, NULL, NULL, it.nonce));
-    return update(ctx, out, it.text, 20);
+/* OpenSSL's own cipher draws one. */
+static bool lose_nonce_of_theirs(EVP_CIPHER_CTX *ctx) {
+    return EVP_CIPHER_CTX_reset(ctx) && EVP_EncryptInit_ex(ctx, pairs[0].theirs, NULL, it.key, NULL);
 }
 
-/* OpenSSL's own draws one. */
-static bool no_nonce(EVP_CIPHER_CTX *ctx) {
-    CHECK(EVP_CIPHER_CTX_reset(ctx) && EVP_EncryptInit_ex(ctx, pairs[0].theirs, NULL, it.key, NULL));
-    CHECK(update(ctx, out, it.text, 20) && final(ctx));
-    CHECK(EVP_CIPHER_CTX_reset(ctx) && EVP_EncryptInit_ex(ctx, pairs[0].ours, NULL, it.key, NULL));
-    return update(ctx, out, it.text, 20);
-}
+static bool begin_anew(EVP_CIPHER_CTX *ctx) { return EVP_EncryptInit_ex(ctx, NULL, NULL, NULL, NULL); }
+static bool begin_to_open(EVP_CIPHER_CTX *ctx) { return EVP_DecryptInit_ex(ctx, NULL, NULL, NULL, it.nonce); }
+static bool begin_record(EVP_CIPHER_CTX *ctx) { return record_aad(ctx, 0, EXPLICIT + 20); }
+static bool record(EVP_CIPHER_CTX *ctx) { return EVP_Cipher(ctx, out, out, EXPLICIT + 20 + TAG) >= 0; }
+static bool record_elsewhere(EVP_CIPHER_CTX *ctx) { return EVP_Cipher(ctx, out, it.text, EXPLICIT + 20 + TAG) >= 0; }
 
-static bool no_made_nonce(EVP_CIPHER_CTX *ctx) {
-    CHECK(ctrl(ctx, EVP_CTRL_GCM_SET_IV_FIXED, -1, it.nonce));
-    return update(ctx, out, it.text, 20);
-}
-
-static bool second_message(EVP_CIPHER_CTX *ctx) {
-    CHECK(update(ctx, out, it.text, 20) && final(ctx));
-    return update(ctx, out, it.text, 20);
-}
-
-static bool second_end(EVP_CIPHER_CTX *ctx) {
-    CHECK(final(ctx));
-    return final(ctx);
-}
-
-static bool begun_anew(EVP_CIPHER_CTX *ctx) {
-    CHECK(update(ctx, out, it.text, 20) && EVP_EncryptInit_ex(ctx, NULL, NULL, NULL, NULL));
-    return update(ctx, out, it.text, 20);
-}
-
-static bool text_after_a_record(EVP_CIPHER_CTX *ctx) {
-    CHECK(ctrl(ctx, EVP_CTRL_GCM_SET_IV_FIXED, 4, it.nonce) && record_aad(ctx, 0, EXPLICIT + 20));
-    CHECK(EVP_Cipher(ctx, out, out, EXPLICIT + 20 + TAG) >= 0);
-    return update(ctx, out, it.text, 20);
-}
-
-static bool late_aad(EVP_CIPHER_CTX *ctx) {
-    CHECK(update(ctx, out, it.text, 20));
-    return update(ctx, NULL, it.aad, 20);
-}
-
-static bool copy_while_sealing(EVP_CIPHER_CTX *ctx) {
+static bool copy(EVP_CIPHER_CTX *ctx) {
     EVP_CIPHER_CTX *to = EVP_CIPHER_CTX_new();
     bool copied;
-    CHECK(to != NULL && update(ctx, out, it.text, 20));
-    copied = EVP_CIPHER_CTX_copy(to, ctx);
-    EVP_CIPHER_CTX_free(to);
-    return copied;
-}
-
-static bool copy_that_makes_nonces(EVP_CIPHER_CTX *ctx) {
-    EVP_CIPHER_CTX *to = EVP_CIPHER_CTX_new();
-    bool copied;
-    CHECK(to != NULL && ctrl(ctx, EVP_CTRL_GCM_SET_IV_FIXED, -1, it.nonce));
+    CHECK(to != NULL);
     copied = EVP_CIPHER_CTX_copy(to, ctx);
     EVP_CIPHER_CTX_free(to);
     return copied;
@@ -361,149 +327,146 @@ static void apart(EVP_CIPHER_CTX *ctx, size_t from, size_t to) {
     gives_zeros(ctx, it.sealed + from, to - from);
 }
 
-static void in_place(EVP_CIPHER_CTX *ctx, size_t from, size_t to) {
+static bool in_place(EVP_CIPHER_CTX *ctx, size_t from, size_t to) {
     memset(out, 0xa7, sizeof out);
     memcpy(out, it.sealed + from, to - from);
     gives_zeros(ctx, out, to - from);
+    return true;
 }
 
-static void overlapping(EVP_CIPHER_CTX *ctx, size_t from, size_t to) {
+static bool overlapping(EVP_CIPHER_CTX *ctx, size_t from, size_t to) {
     int written = -1;
     memset(out, 0xa7, sizeof out);
     memcpy(out + 1, it.sealed + from, to - from);
     CHECK(!EVP_DecryptUpdate(ctx, out, &written, out + 1, (int)(to - from)));
     CHECK(reason_is("the output overlaps the input, and isn't the same"));
-    CHECK(out[0] == 0xa7 && memcmp(out + 1, it.sealed + from, to - from) == 0);
+    return out[0] == 0xa7 && memcmp(out + 1, it.sealed + from, to - from) == 0;
 }
 
 /* The text is taken in, and none is given out: the end is refused. */
-static void give_none(EVP_CIPHER_CTX *ctx, size_t from, size_t to) {
-    overlapping(ctx, from, to);
+static bool give_none(EVP_CIPHER_CTX *ctx, size_t from, size_t to) {
+    CHECK(overlapping(ctx, from, to));
     apart(ctx, from, to);
-    in_place(ctx, from, to);
-    overlapping(ctx, from, to);
+    return in_place(ctx, from, to) && overlapping(ctx, from, to);
 }
 
-static bool no_tag(EVP_CIPHER_CTX *ctx) {
-    give_none(ctx, 0, it.len);
-    return final(ctx);
-}
-
-static bool no_tag_in_place(EVP_CIPHER_CTX *ctx) {
-    in_place(ctx, 0, it.len);
-    return final(ctx);
-}
-
-static bool no_tag_of_nothing(EVP_CIPHER_CTX *ctx) { return final(ctx); }
-
-static bool tag_of_another_message(EVP_CIPHER_CTX *ctx) {
-    CHECK(ctrl(ctx, EVP_CTRL_AEAD_SET_TAG, TAG, it.tag) && update(ctx, out, it.sealed, it.len) && final(ctx));
-    CHECK(EVP_DecryptInit_ex(ctx, NULL, NULL, NULL, it.nonce));
-    give_none(ctx, 0, it.len);
-    return final(ctx);
-}
-
-static bool late_tag(EVP_CIPHER_CTX *ctx) {
-    give_none(ctx, 0, it.len);
-    return ctrl(ctx, EVP_CTRL_AEAD_SET_TAG, TAG, it.tag);
-}
-
-static bool second_tag(EVP_CIPHER_CTX *ctx) {
-    CHECK(ctrl(ctx, EVP_CTRL_AEAD_SET_TAG, TAG, it.tag) && update(ctx, out, it.sealed, it.len));
-    return ctrl(ctx, EVP_CTRL_AEAD_SET_TAG, TAG, it.tag);
-}
+static bool give_none_of_all(EVP_CIPHER_CTX *ctx) { return give_none(ctx, 0, it.len); }
+static bool give_none_of_half(EVP_CIPHER_CTX *ctx) { return give_none(ctx, it.len / 2, it.len); }
+static bool give_none_of_2_bytes(EVP_CIPHER_CTX *ctx) { return give_none(ctx, 0, 2); }
+static bool all_in_place(EVP_CIPHER_CTX *ctx) { return in_place(ctx, 0, it.len); }
+static bool byte_in_place(EVP_CIPHER_CTX *ctx) { return in_place(ctx, 0, 1); }
+static bool open_all(EVP_CIPHER_CTX *ctx) { return update(ctx, out, it.sealed, it.len); }
 
 /* The first piece has a false tag, as of a whole message. */
-static bool pieces(EVP_CIPHER_CTX *ctx) {
-    CHECK(ctrl(ctx, EVP_CTRL_AEAD_SET_TAG, TAG, it.tag));
-    CHECK(update(ctx, out, it.sealed, it.len / 2) && are_zeros(out, it.len / 2));
-    give_none(ctx, it.len / 2, it.len);
-    return final(ctx);
+static bool open_half(EVP_CIPHER_CTX *ctx) { return update(ctx, out, it.sealed, it.len / 2) && are_zeros(out, it.len / 2); }
+static bool overlap(EVP_CIPHER_CTX *ctx) { return overlapping(ctx, 0, it.len); }
+
+/* An update that overlapped is made again. */
+static bool open_again(EVP_CIPHER_CTX *ctx) {
+    return update(ctx, out + 1, out + 1, it.len) && memcmp(out + 1, it.text, it.len) == 0;
 }
 
-static bool more_after_the_message(EVP_CIPHER_CTX *ctx) {
-    CHECK(ctrl(ctx, EVP_CTRL_AEAD_SET_TAG, TAG, it.tag) && update(ctx, out, it.sealed, it.len));
-    give_none(ctx, 0, 2);
-    return final(ctx);
-}
-
-static bool more_in_place(EVP_CIPHER_CTX *ctx) {
-    CHECK(ctrl(ctx, EVP_CTRL_AEAD_SET_TAG, TAG, it.tag) && update(ctx, out, it.sealed, it.len));
-    in_place(ctx, 0, 1);
-    return final(ctx);
-}
-
-/* The update may be made again. */
-static bool overlap(EVP_CIPHER_CTX *ctx) {
-    CHECK(ctrl(ctx, EVP_CTRL_AEAD_SET_TAG, TAG, it.tag));
-    overlapping(ctx, 0, it.len);
-    CHECK(update(ctx, out + 1, out + 1, it.len) && memcmp(out + 1, it.text, it.len) == 0);
+static bool overlap_again(EVP_CIPHER_CTX *ctx) {
     memcpy(out, it.sealed, it.len);
     return update(ctx, out + 1, out, it.len);
 }
 
-static bool record_without_fixed_bytes(EVP_CIPHER_CTX *ctx) {
-    CHECK(record_aad(ctx, 0, EXPLICIT + 20));
-    return EVP_Cipher(ctx, out, out, EXPLICIT + 20 + TAG) >= 0;
+/* With `late-tag = yes`, a piece is given out as it is. */
+static bool take_half(EVP_CIPHER_CTX *ctx) { return update(ctx, out, it.sealed, it.len / 2); }
+
+static bool give_none_elsewhere(EVP_CIPHER_CTX *ctx) {
+    int written = -1, half = (int)it.len / 2;
+    uint8_t *to = out + half + 1;
+    return EVP_DecryptUpdate(ctx, to, &written, it.sealed + half, half) && written == 0 && are_zeros(to, (size_t)half);
 }
 
-static bool record_elsewhere(EVP_CIPHER_CTX *ctx) {
-    CHECK(ctrl(ctx, EVP_CTRL_GCM_SET_IV_FIXED, 4, it.nonce) && record_aad(ctx, 0, EXPLICIT + 20));
-    return EVP_Cipher(ctx, out, it.text, EXPLICIT + 20 + TAG) >= 0;
-}
-
-static const struct {
+/* Of the steps, all but the last are taken. */
+typedef struct {
     bool encrypting;
-    bool (*call)(EVP_CIPHER_CTX *);
     const char *reason;
-} refused[] = {
-    {true, other_nonce_len, "a nonce has 12 bytes"},
-    {false, short_tag, "a tag has 16 bytes, and is set to open a message"},
-    {true, short_tag_of_sealing, "a tag has 16 bytes, and is set to open a message"},
-    {true, tag_while_sealing, "a tag has 16 bytes, and is set to open a message"},
-    {true, tag_before_the_end, "no message was sealed to its end, which makes the tag"},
-    {true, tag_of_the_last_message, "no message was sealed to its end, which makes the tag"},
-    {true, no_key, "no key is set"},
-    {true, no_nonce, "no nonce is set"},
-    {true, no_made_nonce, "no nonce is set"},
-    {true, second_message, "a second message before a new nonce"},
-    {true, second_end, "a second message before a new nonce"},
-    {true, begun_anew, "a second message before a new nonce"},
-    {true, text_after_a_record, "a second message before a new nonce"},
-    {true, late_aad, "AAD after the message has begun"},
-    {true, copy_while_sealing, "a context that seals isn't copied: both would use one nonce"},
-    {true, copy_that_makes_nonces, "a context that seals isn't copied: both would use one nonce"},
-    {false, no_tag, "no tag is set before the message is opened"},
-    {false, no_tag_in_place, "no tag is set before the message is opened"},
-    {false, no_tag_of_nothing, "no tag is set before the message is opened"},
-    {false, tag_of_another_message, "no tag is set before the message is opened"},
-    {false, late_tag, "a tag is set after the update, and not before"},
-    {false, second_tag, "a tag is set after the update, and not before"},
-    {false, pieces, "opening in pieces: a message is opened in one update"},
-    {false, more_after_the_message, "opening in pieces: a message is opened in one update"},
-    {false, more_in_place, "opening in pieces: a message is opened in one update"},
-    {false, overlap, "the output overlaps the input, and isn't the same"},
-    {true, record_without_fixed_bytes, "not a record in place, under a nonce of which the first 4 bytes are fixed"},
-    {true, record_elsewhere, "not a record in place, under a nonce of which the first 4 bytes are fixed"},
+    step *steps[9]; /* and a null pointer */
+} refusal;
+
+static const char bad_tag[] = "a tag has 16 bytes, and is set to open a message";
+static const char no_message[] = "no message was sealed to its end, which makes the tag";
+static const char no_nonce[] = "no nonce is set";
+static const char second[] = "a second message before a new nonce";
+static const char copied[] = "a context that seals isn't copied: both would use one nonce";
+static const char no_tag[] = "no tag is set before the message is opened";
+static const char late_tag[] = "a tag is set after the update, and not before";
+static const char in_pieces[] = "opening in pieces: a message is opened in one update";
+static const char overlaps[] = "the output overlaps the input, and isn't the same";
+static const char no_record[] = "not a record in place, under a nonce of which the first 4 bytes are fixed";
+
+static const refusal refusals_always[] = {
+    {true, "a nonce has 12 bytes", {other_nonce_len}},
+    {false, bad_tag, {set_short_tag}},
+    {true, bad_tag, {final, get_parts, get_11_bytes}},
+    {true, bad_tag, {set_tag}},
+    {true, no_message, {text, get_tag}},
+    {true, no_message, {fix_nonce, make_nonce, text, final, get_tag, make_nonce, text, get_tag}},
+    {true, "no key is set", {lose_key, text}},
+    {true, no_nonce, {lose_nonce_of_theirs, text, final, lose_nonce, text}},
+    {true, no_nonce, {fix_nonce, text}},
+    {true, second, {text, final, text}},
+    {true, second, {final, final}},
+    {true, second, {text, begin_anew, text}},
+    {true, second, {fix_4_bytes, begin_record, record, text}},
+    {true, "AAD after the message has begun", {text, aad}},
+    {true, copied, {text, copy}},
+    {true, copied, {fix_nonce, copy}},
+    {false, no_tag, {give_none_of_all, final}},
+    {false, no_tag, {all_in_place, final}},
+    {false, no_tag, {final}},
+    {false, no_tag, {set_tag, open_all, final, begin_to_open, give_none_of_all, final}},
+    {false, late_tag, {give_none_of_all, set_tag}},
+    {false, late_tag, {set_tag, open_all, set_tag}},
+    {false, in_pieces, {set_tag, open_half, give_none_of_half, final}},
+    {false, in_pieces, {set_tag, open_all, give_none_of_2_bytes, final}},
+    {false, in_pieces, {set_tag, open_all, byte_in_place, final}},
+    {false, overlaps, {set_tag, overlap, open_again, overlap_again}},
+    {true, no_record, {begin_record, record}},
+    {true, no_record, {fix_4_bytes, begin_record, record_elsewhere}},
+    {false, NULL, {NULL}},
 };
 
-static void refuses(const pair *by) {
+/* Those with `late-tag = yes`. */
+static const refusal refusals_when_late[] = {
+    {false, in_pieces, {take_half, give_none_elsewhere, final}},
+    {false, in_pieces, {take_half, give_none_of_half, final}},
+    {false, in_pieces, {set_tag, open_half, give_none_of_half, final}},
+    {false, NULL, {NULL}},
+};
+
+static void refuses(const pair *by, const refusal *refused) {
     it.aad_len = 0;
     it.len = 100;
     seal(by->theirs, it.sealed, it.tag, it.text, 1);
-    for (size_t i = 0; i < sizeof refused / sizeof *refused; i++) {
-        EVP_CIPHER_CTX *ctx = context(by->ours, refused[i].encrypting);
+    for (; refused->reason != NULL; refused++, refusals++) {
+        EVP_CIPHER_CTX *ctx = context(by->ours, refused->encrypting);
         CHECK(ERR_peek_error() == 0);
-        CHECK(!refused[i].call(ctx) && reason_is(refused[i].reason));
+        for (int i = 0; refused->steps[i] != NULL; i++) {
+            bool is_last = refused->steps[i + 1] == NULL;
+            if (refused->steps[i](ctx) != is_last) continue;
+            fprintf(stderr, "step %d is %s: %s\n", i, is_last ? "not refused" : "refused", refused->reason);
+            exit(1);
+        }
+        CHECK(reason_is(refused->reason));
         EVP_CIPHER_CTX_free(ctx);
-        refusals++;
     }
+}
+
+static bool has_opened(void) { return memcmp(out, it.text, it.len) == 0; }
+
+static bool has_sealed(EVP_CIPHER_CTX *ctx) {
+    uint8_t tag[TAG];
+    return update(ctx, out, it.text, it.len) && final(ctx) && ctrl(ctx, EVP_CTRL_AEAD_GET_TAG, TAG, tag) &&
+           memcmp(out, it.sealed, it.len) == 0 && memcmp(tag, it.tag, TAG) == 0;
 }
 
 /* Two contexts, for messages one after the other: the first may be given up. */
 static void one_after_the_other(const pair *by) {
     EVP_CIPHER_CTX *seals = context(by->ours, true), *open = context(by->ours, false);
-    uint8_t tag[TAG];
     CHECK(update(seals, NULL, it.aad, 10) && update(seals, out, it.text, 20) && update(open, NULL, it.aad, 10));
     for (int i = 0; i < 20; i++) {
         fill(it.nonce, NONCE);
@@ -512,11 +475,9 @@ static void one_after_the_other(const pair *by) {
         seal(by->theirs, it.sealed, it.tag, it.text, 1);
         CHECK(EVP_EncryptInit_ex(seals, NULL, NULL, NULL, it.nonce) && EVP_DecryptInit_ex(open, NULL, NULL, NULL, it.nonce));
         add_aad(seals);
-        CHECK(update(seals, out, it.text, it.len) && final(seals) && ctrl(seals, EVP_CTRL_AEAD_GET_TAG, TAG, tag));
-        CHECK(memcmp(out, it.sealed, it.len) == 0 && memcmp(tag, it.tag, TAG) == 0);
+        CHECK(has_sealed(seals));
         add_aad(open);
-        CHECK(ctrl(open, EVP_CTRL_AEAD_SET_TAG, TAG, it.tag) && update(open, out, it.sealed, it.len) && final(open));
-        CHECK(memcmp(out, it.text, it.len) == 0);
+        CHECK(set_tag(open) && open_all(open) && final(open) && has_opened());
         messages++;
     }
     EVP_CIPHER_CTX_free(seals);
@@ -526,19 +487,17 @@ static void one_after_the_other(const pair *by) {
 /* A copy that is made before a byte is sealed goes on by itself, and so does one of a context that opens. */
 static void copies(const pair *by) {
     EVP_CIPHER_CTX *from = context(by->ours, true), *to = EVP_CIPHER_CTX_new();
-    uint8_t tag[TAG];
     it.aad_len = 30;
     seal(by->theirs, it.sealed, it.tag, it.text, 1);
     CHECK(update(from, NULL, it.aad, it.aad_len) && EVP_CIPHER_CTX_copy(to, from));
     EVP_CIPHER_CTX_free(from);
-    CHECK(update(to, out, it.text, it.len) && final(to) && ctrl(to, EVP_CTRL_AEAD_GET_TAG, TAG, tag));
-    CHECK(memcmp(out, it.sealed, it.len) == 0 && memcmp(tag, it.tag, TAG) == 0);
+    CHECK(has_sealed(to));
     EVP_CIPHER_CTX_free(to);
     from = context(by->ours, false);
     to = EVP_CIPHER_CTX_new();
-    CHECK(ctrl(from, EVP_CTRL_AEAD_SET_TAG, TAG, it.tag) && update(from, NULL, it.aad, it.aad_len));
-    CHECK(EVP_CIPHER_CTX_copy(to, from) && update(to, out, it.sealed, it.len) && final(to));
-    CHECK(memcmp(out, it.text, it.len) == 0 && update(from, out, it.sealed, it.len) && final(from));
+    CHECK(set_tag(from) && update(from, NULL, it.aad, it.aad_len));
+    CHECK(EVP_CIPHER_CTX_copy(to, from) && open_all(to) && final(to) && has_opened());
+    CHECK(open_all(from) && final(from) && has_opened());
     EVP_CIPHER_CTX_free(from);
     EVP_CIPHER_CTX_free(to);
 }
@@ -547,19 +506,13 @@ static void copies(const pair *by) {
 static EVP_CIPHER_CTX *waiting(const pair *by, unsigned pieces) {
     EVP_CIPHER_CTX *ctx = context(by->ours, false);
     const uint8_t *from = some(2) == 0 ? out : it.sealed;
-    size_t done = 0, len;
     memset(out, 0xa7, sizeof out);
     if (from == out) memcpy(out, it.sealed, it.len);
     add_aad(ctx);
-    for (; pieces > 0; pieces--, done += len) {
-        len = pieces == 1 ? it.len - done : some((uint32_t)(it.len - done) + 1);
-        CHECK(update(ctx, out + done, from + done, len));
-    }
+    update_in_pieces(ctx, out, from, pieces);
     CHECK(memcmp(out, it.sealed, it.len) == 0);
     return ctx;
 }
-
-static bool set_tag(EVP_CIPHER_CTX *ctx) { return ctrl(ctx, EVP_CTRL_AEAD_SET_TAG, TAG, it.tag); }
 
 /* The end opens the message where its ciphertext was given out; for a false tag, and for none, zeros are left. */
 static void late_tags(const pair *by) {
@@ -567,10 +520,10 @@ static void late_tags(const pair *by) {
     some_message(by);
     ctx = waiting(by, 1 + some(MAX_PIECES));
     CHECK(set_tag(ctx) && final(ctx) && memcmp(out, it.text, it.len) == 0 && out[it.len] == 0xa7);
-    CHECK(!final(ctx) && reason_is("a second message before a new nonce"));
+    CHECK(!final(ctx) && reason_is(second));
     EVP_CIPHER_CTX_free(ctx);
     ctx = waiting(by, 1 + some(MAX_PIECES));
-    CHECK(!final(ctx) && reason_is("no tag is set before the message is opened") && are_zeros(out, it.len));
+    CHECK(!final(ctx) && reason_is(no_tag) && are_zeros(out, it.len));
     EVP_CIPHER_CTX_free(ctx);
     forge();
     ctx = waiting(by, 1 + some(MAX_PIECES));
@@ -579,37 +532,19 @@ static void late_tags(const pair *by) {
     messages++;
 }
 
-/* What is refused with `late-tag = yes` too, and a tag that is set between two pieces, which isn't. */
-static void late_refusals(const pair *by) {
-    EVP_CIPHER_CTX *ctx = context(by->ours, false), *copy = EVP_CIPHER_CTX_new();
-    int written = -1;
-    it.aad_len = 0;
-    it.len = 100;
-    seal(by->theirs, it.sealed, it.tag, it.text, 1);
-    CHECK(update(ctx, out, it.sealed, 40) && copy != NULL && EVP_CIPHER_CTX_copy(copy, ctx));
-    CHECK(!set_tag(copy) && reason_is("a tag is set after the update, and not before"));
-    CHECK(!final(copy) && reason_is("no tag is set before the message is opened"));
-    CHECK(set_tag(ctx) && update(ctx, out + 40, it.sealed + 40, 60) && final(ctx) && memcmp(out, it.text, 100) == 0);
-    EVP_CIPHER_CTX_free(copy);
+/* With `late-tag = yes`, a tag may be set between two pieces, but not in a copy of a context. A message is given up, with its
+ * tag, before the next one. */
+static void late_messages(const pair *by) {
+    EVP_CIPHER_CTX *ctx = context(by->ours, false), *of = EVP_CIPHER_CTX_new();
+    CHECK(take_half(ctx) && of != NULL && EVP_CIPHER_CTX_copy(of, ctx));
+    CHECK(!set_tag(of) && reason_is(late_tag));
+    CHECK(!final(of) && reason_is(no_tag));
+    refusals += 2;
+    CHECK(set_tag(ctx) && update(ctx, out + 50, it.sealed + 50, 50) && final(ctx) && has_opened());
+    EVP_CIPHER_CTX_free(of);
     EVP_CIPHER_CTX_free(ctx);
     ctx = context(by->ours, false);
-    CHECK(update(ctx, out, it.sealed, 40));
-    CHECK(EVP_DecryptUpdate(ctx, out + 41, &written, it.sealed + 40, 60) && written == 0 && are_zeros(out + 41, 60));
-    CHECK(!final(ctx) && reason_is("opening in pieces: a message is opened in one update"));
-    EVP_CIPHER_CTX_free(ctx);
-    ctx = context(by->ours, false);
-    CHECK(update(ctx, out, it.sealed, 40));
-    give_none(ctx, 40, 100);
-    CHECK(!final(ctx) && reason_is("opening in pieces: a message is opened in one update"));
-    EVP_CIPHER_CTX_free(ctx);
-    ctx = context(by->ours, false);
-    CHECK(!pieces(ctx) && reason_is("opening in pieces: a message is opened in one update"));
-    EVP_CIPHER_CTX_free(ctx);
-    refusals += 5;
-    /* a message that is given up, with its tag, before the next one */
-    ctx = context(by->ours, false);
-    CHECK(update(ctx, out, it.sealed, 40) && set_tag(ctx) && EVP_DecryptInit_ex(ctx, NULL, NULL, NULL, it.nonce));
-    CHECK(update(ctx, out, it.sealed, 100) && set_tag(ctx) && final(ctx) && memcmp(out, it.text, 100) == 0);
+    CHECK(take_half(ctx) && set_tag(ctx) && begin_to_open(ctx) && open_all(ctx) && set_tag(ctx) && final(ctx) && has_opened());
     EVP_CIPHER_CTX_free(ctx);
 }
 
@@ -636,8 +571,8 @@ int main(int argc, char **argv) {
         some_records(pairs[i].theirs, pairs[i].ours, true);
         some_records(pairs[i].ours, pairs[i].ours, true);
         made_nonces(&pairs[i]);
-        if (late) late_refusals(&pairs[i]);
-        else refuses(&pairs[i]);
+        refuses(&pairs[i], late ? refusals_when_late : refusals_always);
+        if (late) late_messages(&pairs[i]);
         copies(&pairs[i]);
         one_after_the_other(&pairs[i]);
         EVP_CIPHER_free(pairs[i].ours);
