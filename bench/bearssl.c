@@ -2,6 +2,7 @@
  * bit-sliced core of AES, which a header of the sources declares.
  */
 #include "bench.h"
+#include <stdbool.h>
 #ifdef OF_SOURCES
 #include <inner.h>
 #else
@@ -9,101 +10,60 @@
 #endif
 
 /* An AES key in BearSSL is a form that each call expands. */
-typedef struct {
-    br_aes_ct64_ctr_keys aes;
-    br_gcm_context gcm; /* points to `aes` */
-} gcm_key;
+typedef br_aes_ct64_ctr_keys header_key;
 
-static void init(gcm_key *k, const uint8_t *key, size_t key_len) {
-    br_aes_ct64_ctr_init(&k->aes, key, key_len);
-    br_gcm_init(&k->gcm, &k->aes.vtable, br_ghash_ctmul64);
+typedef struct {
+    header_key aes;
+    br_gcm_context gcm; /* points to `aes` */
+} gcm;
+
+static void gcm_new(gcm *k, size_t key_len, bool seals) { (void)k, (void)key_len, (void)seals; }
+static void gcm_free(gcm *k) { (void)k; }
+static void header_key_new(header_key *k, size_t key_len) { (void)k, (void)key_len; }
+static void header_key_free(header_key *k) { (void)k; }
+
+static bool header_key_set(header_key *k, const uint8_t *key, size_t key_len) {
+    br_aes_ct64_ctr_init(k, key, key_len);
+    return true;
 }
 
-static void start(gcm_key *k, const uint8_t *aad, size_t aad_len) {
+static bool gcm_set(gcm *k, const uint8_t *key, size_t key_len) {
+    br_aes_ct64_ctr_init(&k->aes, key, key_len);
+    br_gcm_init(&k->gcm, &k->aes.vtable, br_ghash_ctmul64);
+    return true;
+}
+
+static void start(gcm *k, const uint8_t *aad, size_t aad_len) {
     br_gcm_reset(&k->gcm, nonce, sizeof nonce);
     br_gcm_aad_inject(&k->gcm, aad, aad_len);
     br_gcm_flip(&k->gcm);
 }
 
-static void seal_with(gcm_key *k, const uint8_t *aad, size_t aad_len, uint8_t *data, size_t len, uint8_t *tag) {
+static bool seal_with(gcm *k, const uint8_t *aad, size_t aad_len, uint8_t *data, size_t len, uint8_t *tag) {
     start(k, aad, aad_len);
     br_gcm_run(&k->gcm, 1, data, len);
     br_gcm_get_tag(&k->gcm, tag);
+    return true;
 }
 
-/* Decrypts before it compares; returns whether the tag is that of the ciphertext. */
-static uint32_t open_with(gcm_key *k, const uint8_t *tag, uint8_t *data, size_t len) {
+/* Decrypts before it compares. */
+static bool open_with(gcm *k, uint8_t *tag, uint8_t *data, size_t len) {
     start(k, nonce, 0);
     br_gcm_run(&k->gcm, 0, data, len);
     return br_gcm_check_tag(&k->gcm, tag);
 }
 
-/* Opening makes the plaintext the ciphertext of what stood there before: two tags take turns. */
-static void seal_twice(gcm_key *k, uint8_t *buffer, size_t len, uint8_t tags[2][TAG_LEN]) {
-    seal_with(k, nonce, 0, buffer, len, tags[1]);
-    seal_with(k, nonce, 0, buffer, len, tags[0]);
+/* The cipher of a sample is the stream of counter mode that begins there. */
+static bool write_mask(header_key *k, uint8_t *sample) {
+    const uint8_t *last = sample + NONCE_LEN;
+    uint32_t counter = (uint32_t)last[0] << 24 | (uint32_t)last[1] << 16 | (uint32_t)last[2] << 8 | last[3];
+    uint8_t mask[MASK_LEN] = {0};
+    br_aes_ct64_ctr_run(k, sample, counter, mask, sizeof mask);
+    memcpy(sample, mask, sizeof mask);
+    return true;
 }
 
-static uint64_t seal(uint64_t times, const uint8_t *key, size_t key_len, uint8_t *buffer, size_t len) {
-    gcm_key k;
-    uint8_t tag[TAG_LEN] = {0};
-    init(&k, key, key_len);
-    for (uint64_t i = 0; i < times; i++) seal_with(&k, nonce, 0, buffer, len, tag);
-    return first_bytes(tag);
-}
-
-static uint64_t open(uint64_t times, const uint8_t *key, size_t key_len, uint8_t *buffer, size_t len) {
-    gcm_key k;
-    uint8_t tags[2][TAG_LEN];
-    init(&k, key, key_len);
-    seal_twice(&k, buffer, len, tags);
-    uint64_t answer = first_bytes(tags[0]);
-    for (uint64_t i = 0; i < times; i++) answer += open_with(&k, tags[i % 2], buffer, len);
-    return answer;
-}
-
-static uint64_t authenticate(uint64_t times, const uint8_t *key, size_t key_len, uint8_t *buffer, size_t len) {
-    gcm_key k;
-    uint8_t tag[TAG_LEN] = {0};
-    init(&k, key, key_len);
-    for (uint64_t i = 0; i < times; i++) seal_with(&k, buffer, len, NULL, 0, tag);
-    return first_bytes(tag);
-}
-
-static uint64_t seal_once(uint64_t times, const uint8_t *key, size_t key_len, uint8_t *buffer, size_t len) {
-    gcm_key k;
-    uint8_t tag[TAG_LEN] = {0};
-    for (uint64_t i = 0; i < times; i++) {
-        init(&k, key, key_len);
-        seal_with(&k, nonce, 0, buffer, len, tag);
-    }
-    return first_bytes(tag);
-}
-
-static uint64_t open_once(uint64_t times, const uint8_t *key, size_t key_len, uint8_t *buffer, size_t len) {
-    gcm_key k;
-    uint8_t tags[2][TAG_LEN];
-    init(&k, key, key_len);
-    seal_twice(&k, buffer, len, tags);
-    uint64_t answer = first_bytes(tags[0]);
-    for (uint64_t i = 0; i < times; i++) {
-        init(&k, key, key_len);
-        answer += open_with(&k, tags[i % 2], buffer, len);
-    }
-    return answer;
-}
-
-static uint64_t gcm_init(uint64_t times, const uint8_t *key, size_t key_len, uint8_t *buffer, size_t len) {
-    gcm_key k;
-    uint8_t tag[TAG_LEN];
-    init(&k, key, key_len);
-    for (uint64_t i = 0; i < times; i++) {
-        set_first_bytes(buffer, i);
-        init(&k, buffer, len);
-    }
-    seal_with(&k, nonce, sizeof nonce, NULL, 0, tag);
-    return first_bytes(tag);
-}
+#include "loops.h"
 
 static uint64_t aes_init(uint64_t times, const uint8_t *key, size_t key_len, uint8_t *buffer, size_t len) {
     static const uint8_t zeros[NONCE_LEN];
@@ -167,38 +127,11 @@ static uint64_t chacha(uint64_t times, const uint8_t *key, size_t key_len, uint8
     return first_bytes(buffer);
 }
 
-/* The cipher of a sample is the stream of counter mode that begins there. */
-static void write_mask(const br_aes_ct64_ctr_keys *k, uint8_t *sample) {
-    const uint8_t *last = sample + NONCE_LEN;
-    uint32_t counter = (uint32_t)last[0] << 24 | (uint32_t)last[1] << 16 | (uint32_t)last[2] << 8 | last[3];
-    uint8_t mask[MASK_LEN] = {0};
-    br_aes_ct64_ctr_run(k, sample, counter, mask, sizeof mask);
-    memcpy(sample, mask, sizeof mask);
-}
-
 static void write_chacha_mask(const uint8_t *key, uint8_t *sample) {
     uint32_t counter = (uint32_t)sample[3] << 24 | (uint32_t)sample[2] << 16 | (uint32_t)sample[1] << 8 | sample[0];
     uint8_t mask[MASK_LEN] = {0};
     br_chacha20_ct_run(key, sample + 4, counter, mask, sizeof mask);
     memcpy(sample, mask, sizeof mask);
-}
-
-static uint64_t mask(uint64_t times, const uint8_t *key, size_t key_len, uint8_t *buffer, size_t len) {
-    br_aes_ct64_ctr_keys k;
-    (void)len;
-    br_aes_ct64_ctr_init(&k, key, key_len);
-    for (uint64_t i = 0; i < times; i++) write_mask(&k, buffer);
-    return first_bytes(buffer);
-}
-
-static uint64_t mask_once(uint64_t times, const uint8_t *key, size_t key_len, uint8_t *buffer, size_t len) {
-    br_aes_ct64_ctr_keys k;
-    (void)len;
-    for (uint64_t i = 0; i < times; i++) {
-        br_aes_ct64_ctr_init(&k, key, key_len);
-        write_mask(&k, buffer);
-    }
-    return first_bytes(buffer);
 }
 
 static uint64_t chacha_mask(uint64_t times, const uint8_t *key, size_t key_len, uint8_t *buffer, size_t len) {
@@ -225,5 +158,5 @@ const side bearssl = {{
     [CHACHA_MASK] = chacha_mask,
     [CHACHA_MASK_ONCE] = chacha_mask,
     [AES_KEY] = aes_init,
-    [GCM_KEY] = gcm_init,
+    [GCM_KEY] = gcm_key,
 }};

@@ -7,7 +7,7 @@
 
 enum { DECRYPT, ENCRYPT };
 
-static const EVP_CIPHER *gcm(size_t key_len) { return key_len == 16 ? EVP_aes_128_gcm() : EVP_aes_256_gcm(); }
+static const EVP_CIPHER *aes_gcm(size_t key_len) { return key_len == 16 ? EVP_aes_128_gcm() : EVP_aes_256_gcm(); }
 static const EVP_CIPHER *ctr(size_t key_len) { return key_len == 16 ? EVP_aes_128_ctr() : EVP_aes_256_ctr(); }
 static const EVP_CIPHER *ecb(size_t key_len) { return key_len == 16 ? EVP_aes_128_ecb() : EVP_aes_256_ecb(); }
 
@@ -39,87 +39,44 @@ static bool update(EVP_CIPHER_CTX *context, uint8_t *out, const uint8_t *in, siz
     return len == 0 || EVP_CipherUpdate(context, out, &written, in, (int)len) == 1;
 }
 
-static bool seal_with(EVP_CIPHER_CTX *context, const uint8_t *aad, size_t aad_len, uint8_t *data, size_t len,
-                      uint8_t *tag) {
-    int written;
-    return set_iv(context, nonce) && update(context, NULL, aad, aad_len) && update(context, data, data, len) &&
-           EVP_CipherFinal_ex(context, tag, &written) == 1 &&
-           EVP_CIPHER_CTX_ctrl(context, EVP_CTRL_AEAD_GET_TAG, TAG_LEN, tag) == 1;
+typedef struct {
+    EVP_CIPHER_CTX *context;
+} gcm, header_key;
+
+static void gcm_new(gcm *k, size_t key_len, bool seals) {
+    k->context = new_context(aes_gcm(key_len), NULL, seals ? ENCRYPT : DECRYPT);
 }
 
-/* Decrypts before it compares; returns whether the tag is that of the ciphertext. */
-static bool open_with(EVP_CIPHER_CTX *context, uint8_t *tag, uint8_t *data, size_t len) {
+static void header_key_new(header_key *k, size_t key_len) { k->context = new_context(ecb(key_len), NULL, ENCRYPT); }
+static bool gcm_set(gcm *k, const uint8_t *key, size_t key_len) { return (void)key_len, set_key(k->context, key); }
+static bool header_key_set(header_key *k, const uint8_t *key, size_t key_len) { return gcm_set(k, key, key_len); }
+static void gcm_free(gcm *k) { EVP_CIPHER_CTX_free(k->context); }
+static void header_key_free(header_key *k) { gcm_free(k); }
+
+static bool seal_with(gcm *k, const uint8_t *aad, size_t aad_len, uint8_t *data, size_t len, uint8_t *tag) {
+    int written;
+    return set_iv(k->context, nonce) && update(k->context, NULL, aad, aad_len) && update(k->context, data, data, len) &&
+           EVP_CipherFinal_ex(k->context, tag, &written) == 1 &&
+           EVP_CIPHER_CTX_ctrl(k->context, EVP_CTRL_AEAD_GET_TAG, TAG_LEN, tag) == 1;
+}
+
+/* Decrypts before it compares. */
+static bool open_with(gcm *k, uint8_t *tag, uint8_t *data, size_t len) {
     uint8_t none[BLOCK_LEN];
     int written;
-    return set_iv(context, nonce) && update(context, data, data, len) &&
-           EVP_CIPHER_CTX_ctrl(context, EVP_CTRL_AEAD_SET_TAG, TAG_LEN, tag) == 1 &&
-           EVP_CipherFinal_ex(context, none, &written) == 1;
+    return set_iv(k->context, nonce) && update(k->context, data, data, len) &&
+           EVP_CIPHER_CTX_ctrl(k->context, EVP_CTRL_AEAD_SET_TAG, TAG_LEN, tag) == 1 &&
+           EVP_CipherFinal_ex(k->context, none, &written) == 1;
 }
 
-/* Opening makes the plaintext the ciphertext of what stood there before: two tags take turns. */
-static void seal_twice(const uint8_t *key, size_t key_len, uint8_t *buffer, size_t len, uint8_t tags[2][TAG_LEN]) {
-    EVP_CIPHER_CTX *context = new_context(gcm(key_len), key, ENCRYPT);
-    seal_with(context, NULL, 0, buffer, len, tags[1]);
-    seal_with(context, NULL, 0, buffer, len, tags[0]);
-    EVP_CIPHER_CTX_free(context);
+static bool write_mask(header_key *k, uint8_t *sample) {
+    uint8_t mask[BLOCK_LEN];
+    if (!update(k->context, mask, sample, SAMPLE_LEN)) return false;
+    memcpy(sample, mask, MASK_LEN);
+    return true;
 }
 
-static uint64_t seal(uint64_t times, const uint8_t *key, size_t key_len, uint8_t *buffer, size_t len) {
-    EVP_CIPHER_CTX *context = new_context(gcm(key_len), key, ENCRYPT);
-    uint8_t tag[TAG_LEN] = {0};
-    for (uint64_t i = 0; i < times; i++) seal_with(context, NULL, 0, buffer, len, tag);
-    return answer_of(context, tag);
-}
-
-static uint64_t open(uint64_t times, const uint8_t *key, size_t key_len, uint8_t *buffer, size_t len) {
-    EVP_CIPHER_CTX *context = new_context(gcm(key_len), key, DECRYPT);
-    uint8_t tags[2][TAG_LEN];
-    uint64_t opened = 0;
-    seal_twice(key, key_len, buffer, len, tags);
-    for (uint64_t i = 0; i < times; i++) opened += open_with(context, tags[i % 2], buffer, len);
-    return answer_of(context, tags[0]) + opened;
-}
-
-static uint64_t authenticate(uint64_t times, const uint8_t *key, size_t key_len, uint8_t *buffer, size_t len) {
-    EVP_CIPHER_CTX *context = new_context(gcm(key_len), key, ENCRYPT);
-    uint8_t tag[TAG_LEN] = {0};
-    for (uint64_t i = 0; i < times; i++) seal_with(context, buffer, len, NULL, 0, tag);
-    return answer_of(context, tag);
-}
-
-static uint64_t seal_once(uint64_t times, const uint8_t *key, size_t key_len, uint8_t *buffer, size_t len) {
-    EVP_CIPHER_CTX *context = new_context(gcm(key_len), NULL, ENCRYPT);
-    uint8_t tag[TAG_LEN] = {0};
-    for (uint64_t i = 0; i < times; i++) {
-        set_key(context, key);
-        seal_with(context, NULL, 0, buffer, len, tag);
-    }
-    return answer_of(context, tag);
-}
-
-static uint64_t open_once(uint64_t times, const uint8_t *key, size_t key_len, uint8_t *buffer, size_t len) {
-    EVP_CIPHER_CTX *context = new_context(gcm(key_len), NULL, DECRYPT);
-    uint8_t tags[2][TAG_LEN];
-    uint64_t opened = 0;
-    seal_twice(key, key_len, buffer, len, tags);
-    for (uint64_t i = 0; i < times; i++) {
-        opened += set_key(context, key) && open_with(context, tags[i % 2], buffer, len);
-    }
-    return answer_of(context, tags[0]) + opened;
-}
-
-static uint64_t gcm_key(uint64_t times, const uint8_t *key, size_t key_len, uint8_t *buffer, size_t len) {
-    EVP_CIPHER_CTX *context = new_context(gcm(len), NULL, ENCRYPT);
-    uint8_t tag[TAG_LEN] = {0};
-    (void)key_len;
-    set_key(context, key);
-    for (uint64_t i = 0; i < times; i++) {
-        set_first_bytes(buffer, i);
-        set_key(context, buffer);
-    }
-    seal_with(context, nonce, sizeof nonce, NULL, 0, tag);
-    return answer_of(context, tag);
-}
+#include "loops.h"
 
 static uint64_t aes_key(uint64_t times, const uint8_t *key, size_t key_len, uint8_t *buffer, size_t len) {
     EVP_CIPHER_CTX *context = new_context(ecb(len), NULL, ENCRYPT);
@@ -159,29 +116,6 @@ static uint64_t chacha(uint64_t times, const uint8_t *key, size_t key_len, uint8
     for (uint64_t i = 0; i < times; i++) {
         set_iv(context, one);
         update(context, buffer, buffer, len);
-    }
-    return answer_of(context, buffer);
-}
-
-static void write_mask(EVP_CIPHER_CTX *context, uint8_t *sample) {
-    uint8_t mask[BLOCK_LEN];
-    update(context, mask, sample, SAMPLE_LEN);
-    memcpy(sample, mask, MASK_LEN);
-}
-
-static uint64_t mask(uint64_t times, const uint8_t *key, size_t key_len, uint8_t *buffer, size_t len) {
-    EVP_CIPHER_CTX *context = new_context(ecb(key_len), key, ENCRYPT);
-    (void)len;
-    for (uint64_t i = 0; i < times; i++) write_mask(context, buffer);
-    return answer_of(context, buffer);
-}
-
-static uint64_t mask_once(uint64_t times, const uint8_t *key, size_t key_len, uint8_t *buffer, size_t len) {
-    EVP_CIPHER_CTX *context = new_context(ecb(key_len), NULL, ENCRYPT);
-    (void)len;
-    for (uint64_t i = 0; i < times; i++) {
-        set_key(context, key);
-        write_mask(context, buffer);
     }
     return answer_of(context, buffer);
 }
