@@ -10,19 +10,19 @@
 #endif
 
 /* An AES key in BearSSL is a form that each call expands. */
-typedef br_aes_ct64_ctr_keys header_key;
+typedef br_aes_ct64_ctr_keys aes;
 
 typedef struct {
-    header_key aes;
+    br_aes_ct64_ctr_keys aes;
     br_gcm_context gcm; /* points to `aes` */
 } gcm;
 
 static void gcm_new(gcm *k, size_t key_len, bool seals) { (void)k, (void)key_len, (void)seals; }
 static void gcm_free(gcm *k) { (void)k; }
-static void header_key_new(header_key *k, size_t key_len) { (void)k, (void)key_len; }
-static void header_key_free(header_key *k) { (void)k; }
+static void aes_new(aes *k, size_t key_len, bool seals) { (void)k, (void)key_len, (void)seals; }
+static void aes_free(aes *k) { (void)k; }
 
-static bool header_key_set(header_key *k, const uint8_t *key, size_t key_len) {
+static bool aes_set(aes *k, const uint8_t *key, size_t key_len) {
     br_aes_ct64_ctr_init(k, key, key_len);
     return true;
 }
@@ -54,7 +54,7 @@ static bool open_with(gcm *k, uint8_t *tag, uint8_t *data, size_t len) {
 }
 
 /* The cipher of a sample is the stream of counter mode that begins there. */
-static bool write_mask(header_key *k, uint8_t *sample) {
+static bool write_mask(aes *k, uint8_t *sample) {
     const uint8_t *last = sample + NONCE_LEN;
     uint32_t counter = (uint32_t)last[0] << 24 | (uint32_t)last[1] << 16 | (uint32_t)last[2] << 8 | last[3];
     uint8_t mask[MASK_LEN] = {0};
@@ -63,27 +63,24 @@ static bool write_mask(header_key *k, uint8_t *sample) {
     return true;
 }
 
+/* The stream begins at the sample. */
+static bool write_chacha_mask(const uint8_t *key, uint8_t *sample) {
+    uint32_t counter = (uint32_t)sample[3] << 24 | (uint32_t)sample[2] << 16 | (uint32_t)sample[1] << 8 | sample[0];
+    uint8_t mask[MASK_LEN] = {0};
+    br_chacha20_ct_run(key, sample + 4, counter, mask, sizeof mask);
+    memcpy(sample, mask, sizeof mask);
+    return true;
+}
+
 #include "loops.h"
 
-static uint64_t aes_init(uint64_t times, const uint8_t *key, size_t key_len, uint8_t *buffer, size_t len) {
-    static const uint8_t zeros[NONCE_LEN];
-    br_aes_ct64_ctr_keys k;
-    uint8_t block[BLOCK_LEN] = {0};
-    br_aes_ct64_ctr_init(&k, key, key_len);
-    for (uint64_t i = 0; i < times; i++) {
-        set_first_bytes(buffer, i);
-        br_aes_ct64_ctr_init(&k, buffer, len);
-    }
-    br_aes_ct64_ctr_run(&k, zeros, 0, block, sizeof block);
-    return first_bytes(block);
-}
-
-static uint64_t ctr32(uint64_t times, const uint8_t *key, size_t key_len, uint8_t *buffer, size_t len) {
-    br_aes_ct64_ctr_keys k;
-    br_aes_ct64_ctr_init(&k, key, key_len);
-    for (uint64_t i = 0; i < times; i++) br_aes_ct64_ctr_run(&k, nonce, 1, buffer, len);
-    return first_bytes(buffer);
-}
+LOOP(aes_key, aes, true, aes_set(&k, key, key_len), (set_first_bytes(buffer, i), aes_set(&k, buffer, len)),
+     (br_aes_ct64_ctr_run(&k, made[1], 0, made[0], BLOCK_LEN), made[0]))
+LOOP(ctr32, aes, true, aes_set(&k, key, key_len), (br_aes_ct64_ctr_run(&k, nonce, 1, buffer, len), true), buffer)
+LOOP(update_block, aes, true, true, (br_ghash_ctmul64(made[0], key, key, BLOCK_LEN), true), made[0])
+LOOP(update_blocks, aes, true, true, (br_ghash_ctmul64(made[0], key, buffer, len), true), made[0])
+LOOP(chacha, aes, true, true, (br_chacha20_ct_run(key, nonce, 1, buffer, len), true), buffer)
+LOOP(chacha_mask, aes, true, true, write_chacha_mask(key, buffer), buffer)
 
 #ifdef OF_SOURCES
 /* One pass of the core, under a key that is expanded before. */
@@ -107,39 +104,6 @@ static uint64_t encrypt_four(uint64_t times, const uint8_t *key, size_t key_len,
 }
 #endif
 
-static uint64_t update_block(uint64_t times, const uint8_t *key, size_t key_len, uint8_t *buffer, size_t len) {
-    uint8_t hash[BLOCK_LEN] = {0};
-    (void)key_len, (void)buffer, (void)len;
-    for (uint64_t i = 0; i < times; i++) br_ghash_ctmul64(hash, key, key, BLOCK_LEN);
-    return first_bytes(hash);
-}
-
-static uint64_t update_blocks(uint64_t times, const uint8_t *key, size_t key_len, uint8_t *buffer, size_t len) {
-    uint8_t hash[BLOCK_LEN] = {0};
-    (void)key_len;
-    for (uint64_t i = 0; i < times; i++) br_ghash_ctmul64(hash, key, buffer, len);
-    return first_bytes(hash);
-}
-
-static uint64_t chacha(uint64_t times, const uint8_t *key, size_t key_len, uint8_t *buffer, size_t len) {
-    (void)key_len;
-    for (uint64_t i = 0; i < times; i++) br_chacha20_ct_run(key, nonce, 1, buffer, len);
-    return first_bytes(buffer);
-}
-
-static void write_chacha_mask(const uint8_t *key, uint8_t *sample) {
-    uint32_t counter = (uint32_t)sample[3] << 24 | (uint32_t)sample[2] << 16 | (uint32_t)sample[1] << 8 | sample[0];
-    uint8_t mask[MASK_LEN] = {0};
-    br_chacha20_ct_run(key, sample + 4, counter, mask, sizeof mask);
-    memcpy(sample, mask, sizeof mask);
-}
-
-static uint64_t chacha_mask(uint64_t times, const uint8_t *key, size_t key_len, uint8_t *buffer, size_t len) {
-    (void)key_len, (void)len;
-    for (uint64_t i = 0; i < times; i++) write_chacha_mask(key, buffer);
-    return first_bytes(buffer);
-}
-
 const side bearssl = {{
     [SEAL] = seal,
     [OPEN] = open,
@@ -157,6 +121,6 @@ const side bearssl = {{
     [MASK_ONCE] = mask_once,
     [CHACHA_MASK] = chacha_mask,
     [CHACHA_MASK_ONCE] = chacha_mask,
-    [AES_KEY] = aes_init,
+    [AES_KEY] = aes_key,
     [GCM_KEY] = gcm_key,
 }};
