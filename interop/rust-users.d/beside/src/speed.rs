@@ -7,15 +7,14 @@ const TURN: Duration = Duration::from_millis(40);
 const TURNS: usize = 15;
 
 type Call = Box<dyn FnMut()>;
-type Seal = Box<dyn FnMut(&mut [u8])>;
-type Open = Box<dyn FnMut(&mut [u8], &[u8])>;
 
-/// The calls of a package. One that opens gets a buffer, and a ciphertext with its tag, which it copies there.
+/// The calls of a package on messages of a length, and a message of zeros that it has sealed.
 struct Calls {
     key: Call,
-    seal: Seal,
-    open: Open,
+    seal: Call,
+    open: Call,
     mask: Call,
+    sealed: Vec<u8>,
 }
 
 /// Defines the calls of a package.
@@ -27,7 +26,7 @@ macro_rules! calls_of {
             use ::$package::aead::{self, Aad, LessSafeKey, Nonce, UnboundKey};
             use std::hint::black_box;
 
-            pub(super) fn calls(is_256: bool) -> Calls {
+            pub(super) fn calls(is_256: bool, len: usize) -> Calls {
                 let (algorithm, of_headers) = match is_256 {
                     true => (&aead::AES_256_GCM, &quic::AES_256),
                     false => (&aead::AES_128_GCM, &quic::AES_128),
@@ -41,39 +40,30 @@ macro_rules! calls_of {
                 let (sealing, opening) = (new(), new());
                 let headers = HeaderProtectionKey::new(of_headers, &bytes[..of_headers.key_len()]);
                 let headers = headers.expect("a key");
+                let (mut plain, mut sealed) = (vec![0; len], vec![0; len]);
+                sealing
+                    .seal_in_place_append_tag(nonce(), Aad::empty(), &mut sealed)
+                    .expect("a message that isn't too long");
+                let (mut opened, given) = (sealed.clone(), sealed.clone());
                 Calls {
                     key: Box::new(move || {
                         black_box(new());
                     }),
-                    seal: Box::new(move |buffer| {
-                        let tag = sealing.seal_in_place_separate_tag(nonce(), Aad::empty(), buffer);
+                    seal: Box::new(move || {
+                        let aad = Aad::empty();
+                        let tag = sealing.seal_in_place_separate_tag(nonce(), aad, &mut plain);
                         let _ = black_box(tag.expect("a message that isn't too long"));
                     }),
-                    open: Box::new(move |buffer, sealed| {
-                        buffer.copy_from_slice(sealed);
-                        let opened = opening.open_in_place(nonce(), Aad::empty(), buffer);
+                    open: Box::new(move || {
+                        opened.copy_from_slice(&given);
+                        let opened = opening.open_in_place(nonce(), Aad::empty(), &mut opened);
                         black_box(opened.expect("a message that was sealed"));
                     }),
                     mask: Box::new(move || {
                         black_box(headers.new_mask(&[7; 16]).expect("a sample"));
                     }),
+                    sealed,
                 }
-            }
-
-            /// A message of zeros, sealed.
-            pub(super) fn sealed(is_256: bool, len: usize) -> Vec<u8> {
-                let algorithm = if is_256 {
-                    &aead::AES_256_GCM
-                } else {
-                    &aead::AES_128_GCM
-                };
-                let key = UnboundKey::new(algorithm, &[7; 32][..algorithm.key_len()]);
-                let key = LessSafeKey::new(key.expect("a key"));
-                let mut buffer = vec![0; len];
-                let nonce = Nonce::assume_unique_for_key([7; 12]);
-                key.seal_in_place_append_tag(nonce, Aad::empty(), &mut buffer)
-                    .expect("a message that isn't too long");
-                buffer
             }
         }
     };
@@ -106,12 +96,15 @@ fn turn(call: &mut dyn FnMut()) -> f64 {
     (now() - start).as_nanos() as f64 / f64::from(count)
 }
 
-/// The median times of two calls, which are made in turns.
-fn medians(ours: &mut dyn FnMut(), theirs: &mut dyn FnMut()) -> [f64; 2] {
+/// The median times of a call of both packages, which are made in turns.
+fn medians(is_256: bool, len: usize, call: fn(&mut Calls) -> &mut Call) -> [f64; 2] {
+    let mut both = [deerlapse_ring::calls(is_256, len), ring::calls(is_256, len)];
+    assert_eq!(both[0].sealed, both[1].sealed);
     let mut times = [Vec::new(), Vec::new()];
     for _ in 0..TURNS {
-        times[0].push(turn(ours));
-        times[1].push(turn(theirs));
+        for (calls, times) in both.iter_mut().zip(&mut times) {
+            times.push(turn(&mut **call(calls)));
+        }
     }
     times.map(|mut it| {
         it.sort_by(f64::total_cmp);
@@ -120,7 +113,8 @@ fn medians(ours: &mut dyn FnMut(), theirs: &mut dyn FnMut()) -> [f64; 2] {
 }
 
 /// A row of the table: the times of both ciphers, or for bytes their speeds, and by how much ring's are shorter.
-fn row(name: &str, bytes: Option<usize>, times: [[f64; 2]; 2]) {
+fn row(name: &str, bytes: Option<usize>, call: fn(&mut Calls) -> &mut Call) {
+    let times = [false, true].map(|is_256| medians(is_256, bytes.unwrap_or(0), call));
     let cell = |of: usize| match bytes {
         Some(len) => {
             let speeds = times.map(|it| len as f64 * 1e3 / it[of]);
@@ -128,60 +122,25 @@ fn row(name: &str, bytes: Option<usize>, times: [[f64; 2]; 2]) {
         }
         None => format!("{:.0}, {:.0} ns", times[0][of], times[1][of]),
     };
+    let (ours, theirs) = (cell(0), cell(1));
     let ratios = times.map(|it| it[0] / it[1]);
     println!(
-        "| {name} | {} | {} | {:.1}, {:.1} |",
-        cell(0),
-        cell(1),
-        ratios[0],
-        ratios[1]
+        "| {name} | {ours} | {theirs} | {:.1}, {:.1} |",
+        ratios[0], ratios[1]
     );
 }
 
 pub(crate) fn run() {
     println!("| Beside ring | `deerlapse-ring` | ring | ring's speed over ours |");
     println!("|---|---|---|---|");
-    let both = |is_256| [deerlapse_ring::calls(is_256), ring::calls(is_256)];
-    row(
-        "making a key",
-        None,
-        [false, true].map(|is_256| {
-            let [mut ours, mut theirs] = both(is_256);
-            medians(&mut *ours.key, &mut *theirs.key)
-        }),
-    );
+    row("making a key", None, |it| &mut it.key);
     for len in [64, 1350, 16_384] {
-        row(
-            &format!("sealing, {len} bytes"),
-            Some(len),
-            [false, true].map(|is_256| {
-                let [mut ours, mut theirs] = both(is_256);
-                let mut buffers = [vec![0; len], vec![0; len]];
-                let [first, second] = &mut buffers;
-                medians(&mut || (ours.seal)(first), &mut || (theirs.seal)(second))
-            }),
-        );
-        row(
-            &format!("opening, {len} bytes"),
-            Some(len),
-            [false, true].map(|is_256| {
-                let [mut ours, mut theirs] = both(is_256);
-                let sealed = ring::sealed(is_256, len);
-                assert_eq!(deerlapse_ring::sealed(is_256, len), sealed);
-                let mut buffers = [sealed.clone(), sealed.clone()];
-                let [first, second] = &mut buffers;
-                medians(&mut || (ours.open)(first, &sealed), &mut || {
-                    (theirs.open)(second, &sealed)
-                })
-            }),
-        );
+        row(&format!("sealing, {len} bytes"), Some(len), |it| {
+            &mut it.seal
+        });
+        row(&format!("opening, {len} bytes"), Some(len), |it| {
+            &mut it.open
+        });
     }
-    row(
-        "a mask",
-        None,
-        [false, true].map(|is_256| {
-            let [mut ours, mut theirs] = both(is_256);
-            medians(&mut *ours.mask, &mut *theirs.mask)
-        }),
-    );
+    row("a mask", None, |it| &mut it.mask);
 }
