@@ -1,5 +1,5 @@
-/* What the calls must write, by OpenSSL. With HASHED it needs no OpenSSL: what one call wrote is expected of the others, and a hash
- * of all of it is kept. */
+/* What the calls of the library must write, by OpenSSL. With HASHED no OpenSSL is needed: what one call writes is then expected of
+ * the others, and `hash` is of all that was expected. */
 #ifndef EXPECTED_H
 #define EXPECTED_H
 
@@ -63,7 +63,7 @@ static void encrypt(const EVP_CIPHER *cipher, const uint8_t *key, const uint8_t 
 
 static const EVP_CIPHER *ecb_of(size_t key_len) { return key_len == 16 ? EVP_aes_128_ecb() : EVP_aes_256_ecb(); }
 
-/* Gives AES-GCM an AAD, and a message to another buffer. */
+/* Processes an AAD and a message by AES-GCM, and writes to another buffer. */
 static EVP_CIPHER_CTX *processed(const uint8_t *key, size_t key_len, const uint8_t nonce[NONCE], const uint8_t *aad,
                                  size_t aad_len, const uint8_t *in, size_t len, uint8_t *out, bool encrypts) {
     EVP_CIPHER_CTX *context = started(key_len == 16 ? EVP_aes_128_gcm() : EVP_aes_256_gcm(), key, nonce, encrypts);
@@ -83,8 +83,8 @@ static void expect_gcm(const uint8_t *key, size_t key_len, const uint8_t nonce[N
 }
 
 /* Whether a ciphertext of `len` bytes opens with the tag after it. Its message is written in either case. */
-static inline bool opens_by_gcm(const uint8_t *key, size_t key_len, const uint8_t nonce[NONCE], const uint8_t *aad, size_t aad_len,
-                                const uint8_t *sealed, size_t len, uint8_t *message) {
+static inline bool opens_by_gcm(const uint8_t *key, size_t key_len, const uint8_t nonce[NONCE], const uint8_t *aad,
+                                size_t aad_len, const uint8_t *sealed, size_t len, uint8_t *message) {
     EVP_CIPHER_CTX *context = processed(key, key_len, nonce, aad, aad_len, sealed, len, message, false);
     uint8_t tag[TAG], none[TAG];
     int written;
@@ -129,7 +129,8 @@ static inline void expect_chacha20_mask(const uint8_t key[32], const uint8_t sam
     encrypt(EVP_chacha20(), key, sample, mask, 5);
 }
 
-static inline void expect_stream(const uint8_t key[32], const uint8_t nonce[NONCE], uint32_t counter, uint8_t *in_out, size_t len) {
+static inline void expect_stream(const uint8_t key[32], const uint8_t nonce[NONCE], uint32_t counter, uint8_t *in_out,
+                                 size_t len) {
     uint8_t iv[16];
     for (int i = 0; i < 4; i++) iv[i] = (uint8_t)(counter >> (8 * i));
     memcpy(iv + 4, nonce, NONCE);

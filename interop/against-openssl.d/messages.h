@@ -1,7 +1,7 @@
-/* A message, and every call that seals or opens it: of AES-GCM and XAES-256-GCM by the bytes of a key, by an expanded key, in
- * pieces, by a sealer and by an opener, and of QUIC and TLS 1.3 by the keys of packets and of records. Whatever the call, it must
- * write what is expected, and refuse each change. Each buffer is a block of its own with canaries, so that sanitizers see what
- * lies outside. */
+/* A message, and every call that seals or opens it. Messages of AES-GCM and XAES-256-GCM are sealed and opened by the bytes of a
+ * key, by an expanded key, in pieces, by a sealer and by an opener; those of QUIC and TLS 1.3 by the keys of packets and of
+ * records. Each call must write what is expected, and refuse each change of what it opens. Each buffer is a block of its own with
+ * canaries, so that the sanitizers see what lies outside of it. */
 #ifndef MESSAGES_H
 #define MESSAGES_H
 
@@ -13,8 +13,8 @@
 
 typedef enum { GCM, XAES, PACKET, RECORD } kind;
 
-/* A key, an IV and a number, whose nonce is both of them, an AAD and a message, with what is expected of them. The key of a packet
- * or a record may be that of a secret. The message of a record is its content, a type and zeros, and its AAD the header. */
+/* A key, a nonce that is made of an IV and a number, an AAD, a message, and what it must be sealed to. The key of a packet or a record
+ * may come from a secret. The message of a record is its content, a type and zeros, and its AAD is the header. */
 typedef struct {
     kind kind;
     uint32_t version;
@@ -73,8 +73,8 @@ static void expand(expanded *key, const sealing *s) {
     CHECK(is);
 }
 
-/* What a call is given beside the key, the nonce and the AAD: `all` bytes, of which it opens those from `start` on; where it writes
- * to, which may be there, and with the length of that or without; and where the tag is, and what it tells. */
+/* The places that a call is given. `in` has `all` bytes, of which those from `start` on are opened. The call writes to `out`, which may
+ * be `in`; `out_len` is its length, or UNSIZED if the call doesn't take one. It tells a length and a type of a content. */
 typedef struct {
     uint8_t *in, *out, *tag, *content_type;
     size_t all, start, out_len, *len;
@@ -83,7 +83,7 @@ typedef struct {
 
 typedef bool call_of(const sealing *s, const expanded *key, const uint8_t *aad, const places *p);
 
-/* A call and the kinds of message that it takes. */
+/* A call, the kinds of message that it takes, and what it does. */
 typedef struct {
     unsigned kinds;
     call_of *call;
@@ -183,8 +183,8 @@ static const way seal_ways[] = {
     {OF(RECORD), seal_record, true, false, false, false},
 };
 
-/* Seals with the tag right after the message, or apart, and in place or to another buffer. What is only read stays, and so does all
- * if the call is refused. What follows the content of a record doesn't matter. */
+/* Seals with the tag right after the message or apart, and in place or to another buffer. What is only read doesn't change, and
+ * nothing changes if the call is refused. What follows the content of a record doesn't matter. */
 static void seals_at(const sealing *s, const expanded *key, const way *by, bool apart, bool to, size_t out_len, bool right) {
     const size_t all = s->len + (apart ? 0 : TAG), out_room = out_len == UNSIZED ? all : out_len;
     buffer aad = copy_of(s->aad, s->aad_len), in = copy_of(s->message, to ? s->len : all);
@@ -212,7 +212,7 @@ static void seals(const sealing *s, const expanded *key, const way *by, bool rig
     }
 }
 
-/* By each call that takes the message: it is sealed, or not. */
+/* Each call that takes the message seals it, or refuses to. */
 static inline void are_sealed(const sealing *s, const expanded *key, bool right) {
     for (const way *by = seal_ways; by < seal_ways + COUNT(seal_ways); by++)
         if (takes(by, s)) seals(s, key, by, right);
@@ -289,7 +289,8 @@ static const way open_ways[] = {
     {OF(RECORD), open_record, true, false, false, true},
 };
 
-/* What is opened: `all` bytes of the ciphertext with its tag, after so many others, from where the caller says that it begins. */
+/* How a message is opened: `all` bytes of the ciphertext with its tag are given, after `others` bytes. The caller says that the
+ * ciphertext begins at `start`. */
 typedef struct {
     size_t all, others, start, out_len;
     bool to;
@@ -300,7 +301,8 @@ static opening opening_of(const sealing *s, size_t start) {
     return as;
 }
 
-/* Opens, and finds the message at the front of where it writes. What is only read stays, and so does all if the call is refused. */
+/* Opens, and finds the message at the front of where the call writes. What is only read doesn't change, and nothing changes if the
+ * call is refused. */
 static void opens(const sealing *s, const expanded *key, const way *by, opening as, bool right) {
     static uint8_t was[MAX_START + MAX_MESSAGE + TAG + 1];
     static const size_t untouched = UNTOUCHED;
@@ -326,7 +328,7 @@ static void opens(const sealing *s, const expanded *key, const way *by, opening 
     is_as_expected(&aad);
 }
 
-/* By each call that takes the message: it is opened, or not. */
+/* Each call that takes the message opens it, or refuses to. */
 static inline void are_opened(const sealing *s, const expanded *key, bool right) {
     for (const way *by = open_ways; by < open_ways + COUNT(open_ways); by++)
         if (takes(by, s)) opens(s, key, by, opening_of(s, 0), right);
@@ -339,7 +341,7 @@ static void refuses_as(const sealing *s, const way *by, opening as) {
     opens(s, &key, by, as, false);
 }
 
-/* Lengths and starts that don't fit. */
+/* The message isn't opened with a length or a start that doesn't fit. */
 static void refuses_lengths_of(const sealing *s, const way *by) {
     opening as = opening_of(s, 0);
     if (by->appends) as.all = below(TAG), refuses_as(s, by, as);
@@ -352,7 +354,8 @@ static void refuses_lengths_of(const sealing *s, const way *by) {
     if (s->len) as.start = 1 + below(s->len), refuses_as(s, by, as);
 }
 
-/* One bit flipped in each place that the tag covers, another number or length of a key, and lengths that don't fit. */
+/* The message isn't opened with one bit flipped in any place that the tag covers, under another number or a key of another length,
+ * or with a length that doesn't fit. */
 static void refuses(const sealing *s, const way *by) {
     static sealing changed;
     const opening as = opening_of(s, 0);
@@ -392,7 +395,7 @@ static void refuses(const sealing *s, const way *by) {
 
 /* ---- all of them */
 
-/* To another buffer of the right length, or of one that doesn't fit. */
+/* A call that takes the length of another buffer refuses a length that doesn't fit. */
 static void seals_sized(const sealing *s, const expanded *key, const way *by) {
     const size_t right = s->len + (by->appends ? TAG : 0), lens[] = {right, right + 1, below(right + 1)};
     for (int i = 0; i < 3; i++) seals_at(s, key, by, !by->appends, true, lens[i], lens[i] == right);
@@ -408,7 +411,7 @@ static void opens_sized(const sealing *s, const expanded *key, const way *by) {
     }
 }
 
-/* Every call that takes the message. A key is only read. */
+/* Everything above, by each call that takes the message. A key is only read. */
 static void seals_and_opens(const sealing *s) {
     expanded key, was;
     expand(&key, s);

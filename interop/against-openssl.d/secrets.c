@@ -31,7 +31,7 @@ static uint8_t pool[POOL], pool_was[POOL];
 
 static const uint8_t *part(size_t len) { return pool + below(POOL - len + 1); }
 
-/* Bytes to write over. */
+/* A buffer to write to, which has other bytes. */
 static buffer room_of(size_t len) { return copy_of(part(len), len); }
 
 /* Other bytes in a part of the pool. */
@@ -233,7 +233,7 @@ static void header_keys(void) {
 
 /* ---- packets and records */
 
-/* A key of a secret, or of bytes. */
+/* Makes a key of a secret, or one of bytes. */
 static void make_key(sealing *s, kind of, const protocol *by, bool by_secret) {
     s->kind = of, s->version = by->number, s->nonce_len = NONCE;
     s->secret_len = by_secret ? digest_len() : 0;
@@ -260,7 +260,7 @@ static void make_packet(sealing *s) {
     seal_number(s, below(8) ? next_random() % NUMBERS_END >> below(62) : NUMBERS_END - 1);
 }
 
-/* The message of a record is what is in it, and the header announces it with its tag. */
+/* Makes `len` bytes the message of a record, of which `content_len` are the content, and the header that announces it. */
 static void set_inner(sealing *s, size_t len, size_t content_len, uint8_t type) {
     const uint8_t header[] = {0x17, 3, 3, (uint8_t)((len + TAG) >> 8), (uint8_t)(len + TAG)};
     memcpy(s->aad, header, sizeof header);
@@ -276,7 +276,7 @@ static void make_record(sealing *s, size_t max) {
     seal_number(s, below(8) ? next_random() >> below(64) : UINT64_MAX);
 }
 
-/* A key of a version that isn't known, and numbers from 2^62 on, under which OpenSSL seals. */
+/* A key of a version that isn't known is refused, and so are numbers from 2^62 on, under which OpenSSL seals. */
 static void refuses_packets(const sealing *s) {
     static sealing changed;
     expanded key, was;
@@ -301,8 +301,8 @@ static void packets(void) {
     }
 }
 
-/* Without a type a record is refused where it is sealed. Where it is opened, zeros alone have none. Too few bytes and too many, of
- * which OpenSSL seals a record, are refused. */
+/* The longest records are only opened. A record without a type isn't sealed, but one of zeros alone is opened, and has none. Records
+ * that OpenSSL seals with too few or too many bytes aren't opened. */
 static void other_records(sealing *s) {
     expanded key;
     expand(&key, s);

@@ -29,6 +29,8 @@ static void read_words(char *line) {
 }
 
 static unsigned checks;
+
+/* A check, counted. */
 #define IS(is) CHECK((checks++, (is)))
 
 /* Whether a call made these bytes. */
@@ -38,7 +40,9 @@ static uint32_t version_of(const word *w) { return strcmp(w->text, "v2") == 0 ? 
 
 static void of_hmac(const word *key, const word *text, const word *codes) {
     uint8_t out[48];
-    for (int i = 0; i < 2; i++) IS(deerlapse_hmac(key->at, key->len, text->at, text->len, out, codes[i].len) && same(out, &codes[i]));
+    for (int i = 0; i < 2; i++) {
+        IS(deerlapse_hmac(key->at, key->len, text->at, text->len, out, codes[i].len) && same(out, &codes[i]));
+    }
 }
 
 static void of_extract(const word *salt, const word *ikm, const word *prk) {
@@ -139,7 +143,8 @@ static void of_line(word *w) {
     else if (strcmp(trying, "label") == 0) of_label(&w[1], &w[2], &w[3], &w[4]);
     else if (strcmp(trying, "update") == 0) of_update(version_of(&w[1]), &w[2], &w[3]);
     else if (strcmp(trying, "packet") == 0)
-        of_packet(version_of(&w[1]), strcmp(w[2].text, "client") == 0, w[3].number, w[4].number, &w[5], &w[6], w[7].number, &w[8], &w[9]);
+        of_packet(version_of(&w[1]), strcmp(w[2].text, "client") == 0, w[3].number, w[4].number, &w[5], &w[6], w[7].number, &w[8],
+                  &w[9]);
     else if (strcmp(trying, "record") == 0) of_record(&w[1], &w[2], &w[3], &w[4]);
     else {
         CHECK(strcmp(trying, "xaes") == 0);

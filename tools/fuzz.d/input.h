@@ -1,5 +1,5 @@
-/* For tools/targets.d/checks.h in a target of tools/fuzz: what is drawn is read from the input, and a buffer that is guarded begins
- * right after a page without access or ends right before one. */
+/* For tools/targets.d/checks.h in a target of tools/fuzz: what is drawn is read from the input, and a buffer that is guarded
+ * begins right after a page without access, or ends right before one. */
 #include <sys/mman.h>
 
 #define BUFFER_ROOM ((size_t)10 << 12)

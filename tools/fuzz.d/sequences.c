@@ -89,7 +89,7 @@ static model drawn_model(size_t *len) {
     return m;
 }
 
-/* A sealer, or an opener. */
+/* Initializes the sealer or the opener. */
 static void inits_numbered(bool seals) {
     size_t len;
     const model m = drawn_model(&len);
@@ -218,7 +218,8 @@ static void finishes(void) {
 
 /* ---- keys of packets and records */
 
-/* A key of bytes, or of a secret whose bytes OpenSSL makes: of packets, or of records, which have no version. */
+/* Initializes the key of packets or of records by bytes, or by a secret from which OpenSSL makes the bytes. A secret of packets has a
+ * version, which may be unknown. */
 static void inits(expanded *key, model *m, kind of) {
     static sealing s;
     const protocol *by = of == PACKET ? some_quic() : &tls13;
@@ -245,7 +246,7 @@ static void inits(expanded *key, model *m, kind of) {
 static void inits_quic(void) { inits(&it.quic, &it.of_quic, PACKET); }
 static void inits_record(void) { inits(&it.record, &it.of_record, RECORD); }
 
-/* Seals and opens, and opens with a bit flipped. A packet's number may be too great. */
+/* Seals and opens a message, and opens it with a bit flipped. The number of a packet may be too great to seal. */
 static void uses(const expanded *key, const model *m, kind of) {
     static sealing s;
     const expanded was = *key;

@@ -7,7 +7,7 @@
 
 int main(void) {
     all_promises_hold();
-    printf("in %lu calls the wipes leave zeros, lengths that aren't right are refused, and null pointers with a length of 0 are not\n",
-           calls_made);
+    printf("in %lu calls the wipes leave zeros, lengths that aren't right are refused, and null pointers with a length of 0 "
+           "are not\n", calls_made);
     return 0;
 }

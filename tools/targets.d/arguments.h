@@ -1,4 +1,4 @@
-/* What is common to the programs that make calls of a table: the arguments, and what a row says of a call. */
+/* What the programs share that make the calls of a table: the arguments, and what a row says of a call. */
 #ifndef ARGUMENTS_H
 #define ARGUMENTS_H
 

@@ -1,6 +1,6 @@
-/* What the C programs of several tools share: checks that end a program, a count of the library's calls, random bytes, and buffers
- * between canaries. With FUZZED, the random bytes are the input of a target of tools/fuzz, and the buffers are beside pages
- * without access. */
+/* What the C programs of several tools share: checks that end a program, a count of the library's calls, random bytes, and
+ * buffers between canaries. With FUZZED, the random bytes are the input of a target of tools/fuzz, and each buffer is beside a
+ * page without access. */
 #ifndef CHECKS_H
 #define CHECKS_H
 
@@ -13,7 +13,7 @@
 
 enum { TAG = 16, NONCE = 12, XAES_NONCE = 24, CANARY = 32, UNTOUCHED = 7 };
 
-/* What a program says where a check fails: what it is trying, and how many calls it has made. */
+/* Where a check fails, a program says what it is trying, and how many calls it has made. */
 static const char *trying = "";
 static unsigned long calls_made;
 
@@ -66,7 +66,7 @@ static inline void release(uint8_t *copy, size_t len) {
 }
 #endif
 
-/* A guarded copy of bytes, and what must be in it in the end: the same, but for what is expected to be written. */
+/* A guarded copy of bytes, and what must be in it when it is checked: the same bytes, until `expect` says that others are written. */
 typedef struct {
     uint8_t *at, *wanted;
     size_t len;
@@ -84,7 +84,7 @@ static inline void expect(buffer *b, const void *bytes, size_t len) {
     if (len) memcpy(b->wanted, bytes, len);
 }
 
-/* Checks and frees a buffer. */
+/* Checks a buffer and its canaries, and frees it. */
 static inline void is_as_expected(buffer *b) {
     CHECK(memcmp(b->at, b->wanted, b->len) == 0);
     release(b->at, b->len);

@@ -1,6 +1,11 @@
-/* What deerlapse.h promises of each call, whatever it computes. A length that isn't right is refused, and so is a call under a key,
- * a sealer or an opener of zeros. Where a length is 0 its pointer may be null. A wipe leaves zeros, and a copy of a key is a key. A
- * call that is refused changes nothing. Each call of calls.def is tried, in memory that ends where a page without access begins. */
+/* Tries what deerlapse.h promises of every call of calls.def, whatever the call computes:
+ *
+ * - a call with a length that isn't right is refused, and so is one under a key, a sealer or an opener of zeros;
+ * - a call that is refused changes nothing, and reads and writes nothing through a pointer whose length is above the limit;
+ * - a pointer may be null where its length is 0;
+ * - a wipe leaves zeros, and a copy of a key is a key.
+ *
+ * The arguments are in memory that ends where a page without access begins. */
 #ifndef PROMISES_H
 #define PROMISES_H
 
@@ -14,7 +19,7 @@
 #include <sys/mman.h>
 #endif
 
-/* Memory for the arguments, between two pages without access. */
+/* Returns memory for the arguments, which is between two pages without access. */
 static arguments *between_pages(void) {
 #ifdef _WIN32
     static arguments there;
@@ -30,7 +35,16 @@ static arguments *between_pages(void) {
 #endif
 }
 
-/* Arguments of random bytes, for a message of so many bytes that begins at `start`, and an AAD of so many. */
+/* Returns where no memory is, if that is known. */
+static uint8_t *after_the_arguments(void) {
+#ifdef _WIN32
+    return NULL;
+#else
+    return (uint8_t *)(void *)(at + 1);
+#endif
+}
+
+/* Fills the arguments with random bytes, for a message of `len` bytes that begins at `start`. */
 static void give(size_t key_len, size_t len, size_t aad_len, size_t start) {
     at = between_pages();
     memset(at, 0x5a, sizeof *at);
@@ -44,7 +58,7 @@ static void give(size_t key_len, size_t len, size_t aad_len, size_t start) {
 
 /* ---- lengths */
 
-/* The greatest that a call takes. */
+/* Returns the greatest length that a call takes. */
 static size_t most(limited which) {
     switch (which) {
     case OF_KEY: return 32;
@@ -69,20 +83,21 @@ static size_t most(limited which) {
     }
 }
 
+/* Whether a call takes this length. What is opened in place has the bytes before its start too, if the call has a start. */
 static bool is_right(limited which, size_t len) {
     switch (which) {
     case OF_KEY: return len == 16 || len == 32;
     case OF_SECRET: case OF_CODE: return len == DEERLAPSE_SHA256_LEN || len == DEERLAPSE_SHA384_LEN;
     case OF_OUT: return len == right_len;
     case OF_LABEL: return len >= 1 && len <= most(which);
-    case OF_SEALED: return len >= right_len - at->len && len <= most(which); /* after the start, if the call has one */
+    case OF_SEALED: return len >= right_len - at->len && len <= most(which);
     case OF_RECORD: return len >= at->len + 1 + TAG && len <= most(which);
     case OF_OPENED_RECORD: return len >= 1 + TAG && len <= most(which);
     default: return len <= most(which);
     }
 }
 
-/* A key whose bytes are refused becomes zeros. Nothing else changes. */
+/* Checks that a call is refused and changes nothing, but that deerlapse_key_init leaves zeros. */
 static void is_refused(const named *it, const arguments *was) {
     static arguments wanted;
     wanted = *was;
@@ -90,21 +105,24 @@ static void is_refused(const named *it, const arguments *was) {
     CHECK(!CALL(it->call()) && SAME(*at, wanted));
 }
 
-/* The call with a length that isn't right, and where it is of a message, with a start that isn't either. */
+/* Makes a call with a length, if it isn't right. With a length of 0 its pointer is also null. Where a message is too long, there is
+ * no memory for its tag, and its start is also one that no message has. */
 static void refuses_length(const named *it, const arguments *was, size_t len) {
+    const bool is_of_message = false_one == OF_MESSAGE || false_one == OF_SEALED;
     if (is_right(false_one, len)) return;
     false_len = len;
+    if (is_of_message && len > most(false_one)) no_memory = after_the_arguments();
     is_refused(it, was);
     if (len == 0) nulls = NULL_TO_READ | NULL_TO_WRITE, is_refused(it, was);
-    if (false_one == OF_MESSAGE || false_one == OF_SEALED) false_start = SIZE_MAX, is_refused(it, was);
-    nulls = 0, false_start = 0;
+    if (is_of_message && len < SIZE_MAX - TAG) false_start = SIZE_MAX, is_refused(it, was);
+    nulls = 0, false_start = 0, no_memory = NULL;
 }
 
-/* The limits that some call has had so far. */
+/* The limits that a call has had so far. */
 static bool is_met[LIMITED];
 
-/* Short lengths, the first one above the limit, powers of two and what follows them, and the greatest. Without the false one the call is accepted, also
- * if it hasn't such a length. */
+/* Makes a call with short lengths, the first one above the limit, powers of two, lengths after them, and the greatest lengths. The
+ * call is accepted if it has no such length, and again at the end, when its length is right. */
 static void refuses_lengths(const named *it, limited which) {
     static arguments was;
     CHECK(it->before());
@@ -130,7 +148,7 @@ static void refuses_lengths(const named *it, limited which) {
 
 /* ---- pointers, zeros and copies */
 
-/* A null pointer where the length is 0 is as good as any other. */
+/* A null pointer where the length is 0 gives the same as any other. */
 static void takes_nulls(const named *it) {
     static arguments was, made;
     CHECK(it->before());
@@ -144,6 +162,7 @@ static void takes_nulls(const named *it) {
     nulls = 0;
 }
 
+/* A call that is under a key, a sealer or an opener is refused if they are zeros. */
 static void is_refused_under_zeros(const named *it) {
     static arguments was;
     CHECK(it->before());
@@ -154,6 +173,7 @@ static void is_refused_under_zeros(const named *it) {
     CHECK(answer != is_under_state && (answer || SAME(*at, was)));
 }
 
+/* A call is accepted in another place of memory, when the keys that were initialized are zeros. */
 static void is_accepted_under_copies(const named *it) {
     static arguments copy;
     CHECK(it->before());
@@ -163,7 +183,8 @@ static void is_accepted_under_copies(const named *it) {
     CHECK(CALL(it->call()));
 }
 
-/* Each is initialized in memory without zeros, by bytes and by a secret, and wiped. Nothing else changes. */
+/* Each key, sealer and opener is initialized in memory without zeros, by bytes or by a secret, and wiped. Its bytes are zeros then, and
+ * no other byte has changed. */
 static void wipes_leave_zeros(void) {
     static arguments wanted;
     trying = "a wipe";
@@ -185,10 +206,10 @@ static void wipes_leave_zeros(void) {
 #undef WIPES
 }
 
-/* A message of a random length, and its AAD. */
+/* Gives a message and an AAD of random lengths. */
 static void give_some(size_t key_len, size_t start) { give(key_len, below(MAX_LEN + 1), below(MAX_LEN + 1), start); }
 
-/* A limit of a call, if it has it. */
+/* One limit of a call, if the call has it. */
 static void limit_holds(const named *it, size_t key_len, limited which) {
     trying = it->name;
     for (size_t start = 0; start < 2; start++) {
@@ -197,7 +218,7 @@ static void limit_holds(const named *it, size_t key_len, limited which) {
     }
 }
 
-/* All else of a call. */
+/* What is promised of a call beside its limits. */
 static void the_rest_holds(const named *it, size_t key_len) {
     trying = it->name;
     give(key_len, 0, 0, 0);
@@ -208,6 +229,7 @@ static void the_rest_holds(const named *it, size_t key_len) {
     is_accepted_under_copies(it);
 }
 
+/* All promises, with each length of a key. */
 static inline void all_promises_hold(void) {
     for (size_t key_len = 16; key_len <= 32; key_len += 16) {
         for (const named *it = calls; it < calls + CALLS; it++) {
@@ -220,7 +242,7 @@ static inline void all_promises_hold(void) {
     for (int which = UNLIMITED + 1; which < LIMITED; which++) CHECK(is_met[which]);
 }
 
-/* A limit of some call, and all else of each. */
+/* All promises but the limits, with one length of a key, and one limit of one call. */
 static inline void some_promises_hold(void) {
     const size_t key_len = below(2) ? 16 : 32;
     limit_holds(&calls[below(CALLS)], key_len, (limited)(1 + below(LIMITED - 1)));
