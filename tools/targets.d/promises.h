@@ -240,6 +240,7 @@ static inline void all_promises_hold(void) {
         wipes_leave_zeros();
     }
     for (int which = UNLIMITED + 1; which < LIMITED; which++) CHECK(is_met[which]);
+    trying = "";
 }
 
 /* All promises but the limits, with one length of a key, and one limit of one call. */
