@@ -22,7 +22,11 @@ CLAIMING = (
     ("crates/deerlapse/README.md", "deerlapse", "What is proved"),
     ("crates/seal_file/README.md", "seal_file", "What is proved"),
 )
-CITATION = re.compile(r"\((`[\w:]+`(?:(?:: |, |; )`[\w:]+`)*)\)")
+ENTRY = r"`[\w:]+`(?:, `[\w:]+`)*(?:: `[\w:]+`(?:, `[\w:]+`)*)?"
+# What states a claim: in parentheses in its sentences, or a line of the list below it.
+CITATION = re.compile(r"\((`[\w:]+`(?:(?:: |, |; )`[\w:]+`)*)\)" rf"|^ +- ({ENTRY})$", re.MULTILINE)
+CLAIM = re.compile(r"^- .*(?:\n +\S.*)*", re.MULTILINE)
+LINE_BELOW = re.compile(r"^ +- `.*", re.MULTILINE)
 OWNER = re.compile(r"(?:pub(?:\([^)]*\))? )?(?:struct|enum|trait|impl\b(?:<.*?>)?(?: .* for)?) (?:\w+::)*(\w+)")
 FUNCTION = re.compile(r"(\s*)(?:pub(?:\([^)]*\))? )?(?:extern \"C\" )?fn (\w+)")
 
@@ -60,11 +64,12 @@ def wrong(texts):
         below = {path: names for other in tables.with_those_below(crate) - {crate} for path, names in contracts(other).items()}
         section = re.search(rf"^## {heading}\n(.*?)(?=^## |\Z)", texts.get(document, ""), re.MULTILINE | re.DOTALL)
         text = section[1] if section else ""
-        claims = re.findall(r"^- .*", text, re.MULTILINE)
+        claims = CLAIM.findall(text)
         if not claims:
             found.append(f"{document}: no claims under {heading}")
         found += [f"{document}: names no clause: {claim}" for claim in claims if not CITATION.search(claim)]
-        for entry in (entry for cited in CITATION.findall(text) for entry in cited.split("; ")):
+        found += [f"{document}: no list of clauses: {line}" for line in LINE_BELOW.findall(text) if not CITATION.fullmatch(line)]
+        for entry in (entry for cited in CITATION.finditer(text) for entry in cited[cited.lastindex].split("; ")):
             functions, _, clauses = entry.partition(": ")
             for function, clause in itertools.product(tables.NAMES.findall(functions), tables.NAMES.findall(clauses) or [None]):
                 named += 1
