@@ -29,11 +29,11 @@ pub extern "C" fn deerlapse_seal(
     ensures tag { IsTrue result → tag.new ≡ gcm_tag (aes key.now) nonce.now aad.now in_out.new }
     ensures refused { IsFalse result → (in_out.new ≡ in_out.old) × (tag.new ≡ tag.old) }
 {
-    seal(key, nonce, aad, in_out, tag, width())
+    seal_with_width(key, nonce, aad, in_out, tag, width())
 }
 
 /// Does the same as `deerlapse_seal`, with planes of this width.
-pub(crate) fn seal(
+pub(crate) fn seal_with_width(
     key: &[u8],
     nonce: &[u8; NONCE_LEN],
     aad: &[u8],
@@ -75,11 +75,11 @@ pub extern "C" fn deerlapse_open(
     ensures refused { IsFalse result
         → (in_out.new ≡ in_out.old) × (plaintext_len.new ≡ plaintext_len.old) }
 {
-    open(key, nonce, aad, in_out, start, plaintext_len, width())
+    open_with_width(key, nonce, aad, in_out, start, plaintext_len, width())
 }
 
 /// Does the same as `deerlapse_open`, with planes of this width.
-pub(crate) fn open(
+pub(crate) fn open_with_width(
     key: &[u8],
     nonce: &[u8; NONCE_LEN],
     aad: &[u8],

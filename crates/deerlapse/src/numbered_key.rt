@@ -35,44 +35,46 @@ const ROOM_LEN: usize = 220;
 // This is also the size of `deerlapse_sealer` and `deerlapse_opener` in the header.
 const _: () = prove!(size_of::<NumberedKey>() == 3440);
 
-/// Initializes a sealer or an opener with an expanded key, for planes of this width, its IV, and the numbers from `first` up to
-/// `limit`, exclusive. Its previous bytes are not read.
-///
-/// Returns false if the key does not have 16 or 32 bytes, or if `first` is above `limit`.
-pub(crate) fn fill(
-    numbered: &mut NumberedKey,
-    key: &[u8],
-    iv: &[u8; NONCE_LEN],
-    first: u64,
-    limit: u64,
-    width: Width,
-) -> bool
-    ensures initializes { InitializesNumberedKey key.now iv.now first limit numbered.old result numbered.new }
-    ensures width { IsTrue result → numbered.new.key.width ≡ width_bits width }
-{
-    let Ok(key) = KeyBytes::from_slice(key) else {
-        return false
-    };
-    if first > limit {
-        return false;
+impl NumberedKey {
+    /// Overwrites this value with an expanded key, for planes of this width, its IV, and the numbers from `first` up to `limit`,
+    /// exclusive.
+    ///
+    /// Returns false if the key does not have 16 or 32 bytes, or if `first` is above `limit`. Nothing is overwritten then.
+    pub(crate) fn init(
+        &mut self,
+        key: &[u8],
+        iv: &[u8; NONCE_LEN],
+        first: u64,
+        limit: u64,
+        width: Width,
+    ) -> bool
+        ensures initializes { InitializesNumberedKey key.now iv.now first limit self.old result self.new }
+        ensures width { IsTrue result → self.new.key.width ≡ width_bits width }
+    {
+        let Ok(key) = KeyBytes::from_slice(key) else {
+            return false
+        };
+        if first > limit {
+            return false;
+        }
+        self.key.expand_with_width(key, width, &mut Work::new());
+        self.next = first;
+        self.limit = limit;
+        self.iv = *iv;
+        self.room = [0; ROOM_LEN];
+        true
     }
-    numbered.key.expand_with_width(key, width, &mut Work::new());
-    numbered.next = first;
-    numbered.limit = limit;
-    numbered.iv = *iv;
-    numbered.room = [0; ROOM_LEN];
-    true
-}
 
-/// Overwrites a sealer or an opener with zeros. It then has no number left, and no key.
-pub(crate) fn wipe(numbered: &mut NumberedKey)
-    ensures { numbered.new ≡ zero_numbered_key }
-{
-    deerlapse_key_wipe(&mut numbered.key);
-    numbered.next = 0;
-    numbered.limit = 0;
-    numbered.iv = [0; NONCE_LEN];
-    numbered.room = [0; ROOM_LEN];
+    /// Overwrites this value with zeros. It then has no number left, and no key.
+    pub(crate) fn wipe(&mut self)
+        ensures { self.new ≡ zero_numbered_key }
+    {
+        deerlapse_key_wipe(&mut self.key);
+        self.next = 0;
+        self.limit = 0;
+        self.iv = [0; NONCE_LEN];
+        self.room = [0; ROOM_LEN];
+    }
 }
 
 /// Writes the nonce of 12 bytes that a sealer with this IV uses for a number (RFC 8446 section 5.3).

@@ -9,7 +9,7 @@ ghost use Rattle.deerlapse.specs.AesKey.{HasRounds, IsKeyOrNone};
 ghost use Rattle.deerlapse.specs.NumberedKey.{InitializesNumberedKey, key_of, next_nonce, zero_numbered_key};
 
 use crate::key::{deerlapse_key_open, width};
-use crate::numbered_key::{NumberedKey, fill, wipe};
+use crate::numbered_key::NumberedKey;
 use aead_ciphers::aead::{NONCE_LEN, nonce_of};
 
 /// Initializes an opener of the messages with the numbers from `first` up to `limit`, exclusive. Its previous bytes are not read.
@@ -25,7 +25,7 @@ pub extern "C" fn deerlapse_opener_init(
 ) -> bool
     ensures { InitializesNumberedKey key.now iv.now first limit opener.old result opener.new }
 {
-    fill(opener, key, iv, first, limit, width())
+    opener.init(key, iv, first, limit, width())
 }
 
 /// Returns the number of the message that is opened next in order.
@@ -108,5 +108,5 @@ pub extern "C" fn deerlapse_opener_open_number(
 pub extern "C" fn deerlapse_opener_wipe(opener: &mut NumberedKey)
     ensures { opener.new ≡ zero_numbered_key }
 {
-    wipe(opener);
+    opener.wipe();
 }

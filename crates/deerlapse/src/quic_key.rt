@@ -12,7 +12,7 @@ ghost use Rattle.deerlapse.specs.AesKey.{HasRounds, IsKeyOrNone};
 ghost use Rattle.deerlapse.specs.TrafficKey.{DerivesQuicKey, InitializesTrafficKey, IsDigestLen, IsPacketKey, quic_secret_of, zero_traffic_key};
 
 use crate::key::{deerlapse_key_open, deerlapse_key_seal, width};
-use crate::traffic_key::{SHA_256_LEN, TrafficKey, fill, secret_of, wipe};
+use crate::traffic_key::{SHA_256_LEN, TrafficKey, secret_of};
 use aead_ciphers::aead::{MAX_TAG_LEN, NONCE_LEN, nonce_of};
 use aead_ciphers_wide::aes::Width;
 use key_derivation::quic::{QuicSecret, Version};
@@ -31,7 +31,7 @@ pub extern "C" fn deerlapse_quic_key_init(
 ) -> bool
     ensures { InitializesTrafficKey bytes.now iv.now key.old result key.new }
 {
-    fill(key, bytes, iv, width())
+    key.init(bytes, iv, width())
 }
 
 /// Initializes a key with the key and the IV of a secret, in the version with this number (RFC 9001 section 5.1, RFC 9369 section
@@ -46,11 +46,11 @@ pub extern "C" fn deerlapse_quic_key_from_secret(
 ) -> bool
     ensures { DerivesQuicKey IsPacketKey version secret.now key.old result key.new }
 {
-    fill_from_secret(key, version, secret, width())
+    init_from_secret(key, version, secret, width())
 }
 
 /// Does the same as `deerlapse_quic_key_from_secret`, for planes of this width.
-pub(crate) fn fill_from_secret(
+pub(crate) fn init_from_secret(
     key: &mut TrafficKey,
     version: u32,
     secret: &[u8],
@@ -66,7 +66,7 @@ pub(crate) fn fill_from_secret(
         return false
     };
     let keys = QuicSecret::new(version, secret).packet_keys();
-    fill(key, keys.key.as_slice(), &keys.iv, width)
+    key.init(keys.key.as_slice(), &keys.iv, width)
 }
 
 /// Writes the secrets that protect the Initial packets of a client and of a server. They are derived from the Destination
@@ -188,5 +188,5 @@ pub extern "C" fn deerlapse_quic_key_open(
 pub extern "C" fn deerlapse_quic_key_wipe(key: &mut TrafficKey)
     ensures { key.new ≡ zero_traffic_key }
 {
-    wipe(key);
+    key.wipe();
 }

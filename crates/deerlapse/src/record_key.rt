@@ -13,10 +13,10 @@ ghost use Rattle.deerlapse.specs.AesKey.{HasRounds, IsKeyOrNone};
 ghost use Rattle.deerlapse.specs.TrafficKey.{DerivesRecordKey, InitializesTrafficKey, IsDigestLen, IsInner, IsPayloadLen, secret_of, zero_traffic_key};
 
 use crate::key::{deerlapse_key_open, deerlapse_key_seal, has_rounds, width};
-use crate::traffic_key::{TrafficKey, fill, secret_of, wipe};
+use crate::traffic_key::{TrafficKey, secret_of};
 use aead_ciphers::aead::{MAX_TAG_LEN, NONCE_LEN, nonce_of};
 use aead_ciphers_wide::aes::Width;
-use records::{MAX_ENCRYPTED_LEN, MAX_SIZE_LIMIT, header_of, last_nonzero};
+use records::{MAX_ENCRYPTED_LEN, MAX_SIZE_LIMIT, header_of, last_nonzero, write_type_and_padding};
 
 /// Initializes a key from its bytes and its IV. Its previous bytes are not read.
 ///
@@ -29,7 +29,7 @@ pub extern "C" fn deerlapse_record_key_init(
 ) -> bool
     ensures { InitializesTrafficKey bytes.now iv.now key.old result key.new }
 {
-    fill(key, bytes, iv, width())
+    key.init(bytes, iv, width())
 }
 
 /// Initializes a key with the key and the IV of a traffic secret (RFC 8446 section 7.3). Its previous bytes are not read.
@@ -39,11 +39,11 @@ pub extern "C" fn deerlapse_record_key_init(
 pub extern "C" fn deerlapse_record_key_from_secret(key: &mut TrafficKey, secret: &[u8]) -> bool
     ensures { DerivesRecordKey secret.now key.old result key.new }
 {
-    fill_from_secret(key, secret, width())
+    init_from_secret(key, secret, width())
 }
 
 /// Does the same as `deerlapse_record_key_from_secret`, for planes of this width.
-pub(crate) fn fill_from_secret(key: &mut TrafficKey, secret: &[u8], width: Width) -> bool
+pub(crate) fn init_from_secret(key: &mut TrafficKey, secret: &[u8], width: Width) -> bool
     ensures derives { DerivesRecordKey secret.now key.old result key.new }
     ensures width { IsTrue result → key.new.key.width ≡ width_bits width }
 {
@@ -51,7 +51,7 @@ pub(crate) fn fill_from_secret(key: &mut TrafficKey, secret: &[u8], width: Width
         return false
     };
     let keys = secret.record_keys();
-    fill(key, keys.key.as_slice(), &keys.iv, width)
+    key.init(keys.key.as_slice(), &keys.iv, width)
 }
 
 /// Overwrites a traffic secret with the one after a KeyUpdate (RFC 8446 section 7.2).
@@ -102,8 +102,7 @@ pub extern "C" fn deerlapse_record_key_seal(
         return false;
     }
     let (inner, tag) = payload.split_at_mut(len - MAX_TAG_LEN);
-    inner[content_len] = content_type;
-    inner[content_len + 1..].fill(0);
+    write_type_and_padding(inner, content_type, content_len);
     let nonce = nonce_of(&key.iv, number);
     let mut made = [0; MAX_TAG_LEN];
     let sealed = deerlapse_key_seal(&key.key, nonce.as_ref(), &header_of(len), inner, &mut made);
@@ -162,5 +161,5 @@ pub extern "C" fn deerlapse_record_key_open(
 pub extern "C" fn deerlapse_record_key_wipe(key: &mut TrafficKey)
     ensures { key.new ≡ zero_traffic_key }
 {
-    wipe(key);
+    key.wipe();
 }

@@ -7,7 +7,7 @@ ghost use Rattle.deerlapse.specs.AesKey.{HasRounds, IsKeyOrNone};
 ghost use Rattle.deerlapse.specs.NumberedKey.{InitializesNumberedKey, key_of, next_nonce, zero_numbered_key};
 
 use crate::key::{deerlapse_key_seal, width};
-use crate::numbered_key::{NumberedKey, fill, wipe};
+use crate::numbered_key::NumberedKey;
 use aead_ciphers::aead::{MAX_TAG_LEN, NONCE_LEN, nonce_of};
 
 /// Initializes a sealer whose messages get the numbers from `first` up to `limit`, exclusive. Its previous bytes are not read. A
@@ -24,7 +24,7 @@ pub extern "C" fn deerlapse_sealer_init(
 ) -> bool
     ensures { InitializesNumberedKey key.now iv.now first limit sealer.old result sealer.new }
 {
-    fill(sealer, key, iv, first, limit, width())
+    sealer.init(key, iv, first, limit, width())
 }
 
 /// Returns the number of the next message.
@@ -74,5 +74,5 @@ pub extern "C" fn deerlapse_sealer_seal(
 pub extern "C" fn deerlapse_sealer_wipe(sealer: &mut NumberedKey)
     ensures { sealer.new ≡ zero_numbered_key }
 {
-    wipe(sealer);
+    sealer.wipe();
 }

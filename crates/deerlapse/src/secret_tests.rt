@@ -21,7 +21,7 @@ use crate::record_key::{
     deerlapse_record_key_seal, deerlapse_record_key_wipe, deerlapse_tls_next_secret,
 };
 use crate::tests::{accepted, equal, is_zero, no_header_key, same};
-use crate::traffic_key::{TrafficKey, fill};
+use crate::traffic_key::TrafficKey;
 use aead_ciphers::aes_gcm::GcmKey;
 use aead_ciphers_wide::aes::Width;
 use aead_ciphers_wide::aes_gcm::ExpandedKey;
@@ -115,7 +115,7 @@ fn masks_header(rt: &impl Abort, key: &HeaderKey, row: &Packet) -> Result<(), Fa
 fn protects(rt: &impl Abort, version: u32, secret: &[u8], row: &Packet) -> Result<(), Fail> {
     let (mut key, mut wider, mut of_bytes) = (no_key(), no_key(), no_key());
     if !deerlapse_quic_key_from_secret(&mut key, version, secret)
-        || !quic_key::fill_from_secret(&mut wider, version, secret, Width::Bits256)
+        || !quic_key::init_from_secret(&mut wider, version, secret, Width::Bits256)
         || !deerlapse_quic_key_init(&mut of_bytes, &row.key, &row.iv)
     {
         return Err("a key".into());
@@ -124,7 +124,7 @@ fn protects(rt: &impl Abort, version: u32, secret: &[u8], row: &Packet) -> Resul
     seals_packet(rt, &key, row)?;
     seals_packet(rt, &wider, row)?;
     seals_packet(rt, &of_bytes, row)?;
-    if !fill(&mut of_bytes, &row.key, &row.iv, Width::Bits256) {
+    if !of_bytes.init(&row.key, &row.iv, Width::Bits256) {
         return Err("a key".into());
     }
     seals_packet(rt, &of_bytes, row)?;
@@ -246,7 +246,7 @@ fn seals_record(rt: &impl Abort, key: &TrafficKey, row: &Record) -> Result<(), F
 fn protects_record(rt: &impl Abort, row: &Record) -> Result<(), Fail> {
     let (mut key, mut wider) = (no_key(), no_key());
     if !deerlapse_record_key_from_secret(&mut key, &row.secret)
-        || !record_key::fill_from_secret(&mut wider, &row.secret, Width::Bits256)
+        || !record_key::init_from_secret(&mut wider, &row.secret, Width::Bits256)
     {
         return Err("a key".into());
     }
@@ -290,7 +290,7 @@ fn opens_by(rt: &impl Abort, key: &TrafficKey, width: u32)
 fn padded(rt: HostRuntime) -> Result<(), Fail> {
     let (mut key, mut wider) = (no_key(), no_key());
     if !deerlapse_record_key_init(&mut key, &[3; 32], &[5; 12])
-        || !fill(&mut wider, &[3; 32], &[5; 12], Width::Bits256)
+        || !wider.init(&[3; 32], &[5; 12], Width::Bits256)
     {
         return Err("a key".into());
     }

@@ -2,7 +2,7 @@
 
 ghost use Rattle.deerlapse.specs.AesKey.{IsKeyOrNone};
 
-use crate::aes_gcm::{deerlapse_open, deerlapse_seal, open, seal};
+use crate::aes_gcm::{deerlapse_open, deerlapse_seal, open_with_width, seal_with_width};
 use crate::chacha20::deerlapse_chacha20;
 use crate::header_key::{
     HeaderKey, deerlapse_quic_header_key_init, deerlapse_quic_header_key_mask,
@@ -12,7 +12,7 @@ use crate::key::{
     deerlapse_key_wipe, expand,
 };
 use crate::masks::{deerlapse_mask_aes, deerlapse_mask_chacha20};
-use crate::numbered_key::{NumberedKey, deerlapse_nonce, fill};
+use crate::numbered_key::{NumberedKey, deerlapse_nonce};
 use crate::opener::{
     deerlapse_opener_init, deerlapse_opener_next, deerlapse_opener_open,
     deerlapse_opener_open_number, deerlapse_opener_wipe,
@@ -107,7 +107,7 @@ fn seals_and_opens(
     let mut tag = [0; 16];
     let sealed = match sealing {
         Width::Bits128 => deerlapse_seal(key, nonce, aad, &mut bytes, &mut tag),
-        Width::Bits256 => seal(key, nonce, aad, &mut bytes, &mut tag, sealing),
+        Width::Bits256 => seal_with_width(key, nonce, aad, &mut bytes, &mut tag, sealing),
     };
     is_sealed(rt, case, sealed, &bytes, &tag);
 
@@ -116,7 +116,7 @@ fn seals_and_opens(
     let mut len = 0;
     let opened = match opening {
         Width::Bits128 => deerlapse_open(key, nonce, aad, &mut bytes, 3, &mut len),
-        Width::Bits256 => open(key, nonce, aad, &mut bytes, 3, &mut len, opening),
+        Width::Bits256 => open_with_width(key, nonce, aad, &mut bytes, 3, &mut len, opening),
     };
     is_opened(rt, case, opened, &bytes, len)
 }
@@ -259,7 +259,7 @@ fn seals_once(rt: &impl Abort, case: &Case, width: Width) -> Result<(), Fail> {
     let mut sealer = no_numbers();
     let made = match width {
         Width::Bits128 => deerlapse_sealer_init(&mut sealer, &case.key, &case.nonce, 0, 1),
-        Width::Bits256 => fill(&mut sealer, &case.key, &case.nonce, 0, 1, width),
+        Width::Bits256 => sealer.init(&case.key, &case.nonce, 0, 1, width),
     };
     if !made {
         return Err("a sealer".into());
@@ -321,7 +321,7 @@ fn opens_under_each_width(rt: &impl Abort, case: &Case) -> Result<(), Fail> {
     let mut opener = no_numbers();
     let mut wider = no_numbers();
     if !deerlapse_opener_init(&mut opener, &case.key, &case.nonce, 0, 1)
-        || !fill(&mut wider, &case.key, &case.nonce, 0, 1, Width::Bits256)
+        || !wider.init(&case.key, &case.nonce, 0, 1, Width::Bits256)
     {
         return Err("an opener".into());
     }
@@ -362,7 +362,7 @@ fn long(rt: HostRuntime) -> Result<(), Fail> {
     let mut other_tag = [0; 16];
     accepted(
         &rt,
-        seal(
+        seal_with_width(
             &key,
             &nonce,
             &aad,
@@ -377,7 +377,7 @@ fn long(rt: HostRuntime) -> Result<(), Fail> {
     sealed.extend_from_slice(&tag)?;
     wider.extend_from_slice(&tag)?;
     let mut len = 0;
-    let opened = open(&key, &nonce, &aad, &mut sealed, 0, &mut len, Width::Bits256)
+    let opened = open_with_width(&key, &nonce, &aad, &mut sealed, 0, &mut len, Width::Bits256)
         && deerlapse_open(&key, &nonce, &aad, &mut wider, 0, &mut len);
     accepted(&rt, opened, "the other width");
     for bytes in [&sealed, &wider] {

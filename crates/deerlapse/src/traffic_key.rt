@@ -36,29 +36,31 @@ pub(crate) const SHA_384_LEN: usize = 48;
 /// The length in bytes of a secret of TLS_AES_128_GCM_SHA256, and of a digest of SHA-256.
 pub(crate) const SHA_256_LEN: usize = 32;
 
-/// Initializes a key with an expanded key, for planes of this width, and its IV. Its previous bytes are not read.
-///
-/// Returns false if the key does not have 16 or 32 bytes.
-pub(crate) fn fill(traffic: &mut TrafficKey, key: &[u8], iv: &[u8; NONCE_LEN], width: Width) -> bool
-    ensures initializes { InitializesTrafficKey key.now iv.now traffic.old result traffic.new }
-    ensures width { IsTrue result → traffic.new.key.width ≡ width_bits width }
-{
-    let Ok(key) = KeyBytes::from_slice(key) else {
-        return false
-    };
-    traffic.key.expand_with_width(key, width, &mut Work::new());
-    traffic.iv = *iv;
-    traffic.room = [0; ROOM_LEN];
-    true
-}
+impl TrafficKey {
+    /// Overwrites this value with an expanded key, for planes of this width, and its IV.
+    ///
+    /// Returns false if the key does not have 16 or 32 bytes. Nothing is overwritten then.
+    pub(crate) fn init(&mut self, key: &[u8], iv: &[u8; NONCE_LEN], width: Width) -> bool
+        ensures initializes { InitializesTrafficKey key.now iv.now self.old result self.new }
+        ensures width { IsTrue result → self.new.key.width ≡ width_bits width }
+    {
+        let Ok(key) = KeyBytes::from_slice(key) else {
+            return false
+        };
+        self.key.expand_with_width(key, width, &mut Work::new());
+        self.iv = *iv;
+        self.room = [0; ROOM_LEN];
+        true
+    }
 
-/// Overwrites a key with zeros. Every call under it then returns false.
-pub(crate) fn wipe(traffic: &mut TrafficKey)
-    ensures { traffic.new ≡ zero_traffic_key }
-{
-    deerlapse_key_wipe(&mut traffic.key);
-    traffic.iv = [0; NONCE_LEN];
-    traffic.room = [0; ROOM_LEN];
+    /// Overwrites this value with zeros. Every call under it then returns false.
+    pub(crate) fn wipe(&mut self)
+        ensures { self.new ≡ zero_traffic_key }
+    {
+        deerlapse_key_wipe(&mut self.key);
+        self.iv = [0; NONCE_LEN];
+        self.room = [0; ROOM_LEN];
+    }
 }
 
 /// Returns the secret with these bytes: 32 for TLS_AES_128_GCM_SHA256, or 48 for TLS_AES_256_GCM_SHA384. Returns `None` for any
