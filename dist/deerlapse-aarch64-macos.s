@@ -3958,8 +3958,8 @@ Ldeerlapse_0_1_0_BB15_3:                                ; %after.1
 	.loh AdrpLdr	Ldeerlapse_0_1_0_loh40, Ldeerlapse_0_1_0_loh41
 	.cfi_endproc
                                         ; -- End function
-	.p2align	2                               ; -- Begin function key_derivation::quic::initial_secret
-"_deerlapse_0_1_0::key_derivation::quic::initial_secret": ; @"key_derivation::quic::initial_secret"
+	.p2align	2                               ; -- Begin function key_derivation::quic::endpoint_secret
+"_deerlapse_0_1_0::key_derivation::quic::endpoint_secret": ; @"key_derivation::quic::endpoint_secret"
 	.cfi_startproc
 ; %bb.0:                                ; %start
 	sub	sp, sp, #480
@@ -4175,7 +4175,7 @@ Ldeerlapse_0_1_0_BB16_3:                                ; %common.ret
 	stur	q0, [sp, #65]
 	stur	q0, [sp, #49]
 	stur	q0, [sp, #33]
-	bl	"_deerlapse_0_1_0::key_derivation::hkdf::write_label"
+	bl	"_deerlapse_0_1_0::key_derivation::hkdf::write_hkdf_label"
 	stp	x22, x0, [sp, #8]
 	add	x1, sp, #8
 	mov	x0, x21
@@ -4200,8 +4200,8 @@ Ldeerlapse_0_1_0_BB16_3:                                ; %common.ret
 	ret
 	.cfi_endproc
                                         ; -- End function
-	.p2align	2                               ; -- Begin function key_derivation::hkdf::write_label
-"_deerlapse_0_1_0::key_derivation::hkdf::write_label":   ; @"key_derivation::hkdf::write_label"
+	.p2align	2                               ; -- Begin function key_derivation::hkdf::write_hkdf_label
+"_deerlapse_0_1_0::key_derivation::hkdf::write_hkdf_label": ; @"key_derivation::hkdf::write_hkdf_label"
 	.cfi_startproc
 ; %bb.0:                                ; %start
 	stp	x24, x23, [sp, #-64]!           ; 16-byte Folded Spill
@@ -4252,7 +4252,7 @@ Ldeerlapse_0_1_0_BB18_3:                                ; %apart.2.i.i.i.i.i.i.i
 	movk	w10, #12659, lsl #16
 	strh	w9, [x8, #4]
 	str	w10, [x8]
-Ldeerlapse_0_1_0_BB18_4:                                ; %"key_derivation::hkdf::append.exit30"
+Ldeerlapse_0_1_0_BB18_4:                                ; %"key_derivation::hkdf::write_at.exit30"
 	add	x8, x21, #9
 	sub	x9, x8, x1
 	cmp	x9, x22
@@ -4270,7 +4270,7 @@ Ldeerlapse_0_1_0_BB18_7:                                ; %apart.2.i.i.i.i.i.i.i
 	add	x0, x21, #9
 	mov	x2, x22
 	bl	_memmove
-Ldeerlapse_0_1_0_BB18_8:                                ; %"key_derivation::hkdf::append.exit44"
+Ldeerlapse_0_1_0_BB18_8:                                ; %"key_derivation::hkdf::write_at.exit44"
 	add	x23, x22, #10
 	add	x9, x21, x22
 	add	x0, x21, x23
@@ -4291,7 +4291,7 @@ Ldeerlapse_0_1_0_BB18_11:                               ; %apart.2.i.i.i.i.i.i.i
 	mov	x1, x20
 	mov	x2, x19
 	bl	_memmove
-Ldeerlapse_0_1_0_BB18_12:                               ; %"key_derivation::hkdf::append.exit74"
+Ldeerlapse_0_1_0_BB18_12:                               ; %"key_derivation::hkdf::write_at.exit74"
 	add	x0, x19, x23
 	.cfi_def_cfa wsp, 64
 	ldp	x29, x30, [sp, #48]             ; 16-byte Folded Reload
@@ -10066,7 +10066,7 @@ Ldeerlapse_0_1_0_BB35_3:                                ; %after.3
 	stur	q0, [sp, #65]
 	stur	q0, [sp, #49]
 	stur	q0, [sp, #33]
-	bl	"_deerlapse_0_1_0::key_derivation::hkdf::write_label"
+	bl	"_deerlapse_0_1_0::key_derivation::hkdf::write_hkdf_label"
 	stp	x22, x0, [sp, #8]
 	add	x1, sp, #8
 	mov	x0, x21
@@ -11234,7 +11234,7 @@ Ldeerlapse_0_1_0_loh107:
 	mov	w1, w23
 	mov	x3, x22
 	add	x26, sp, #144
-	bl	"_deerlapse_0_1_0::key_derivation::quic::initial_secret"
+	bl	"_deerlapse_0_1_0::key_derivation::quic::endpoint_secret"
 	ldur	q0, [x26, #3]
 	ldur	q1, [x26, #19]
 Ldeerlapse_0_1_0_loh108:
@@ -11250,7 +11250,7 @@ Ldeerlapse_0_1_0_loh109:
 	mov	x3, x22
 	stp	q0, q1, [sp, #48]
 	str	q2, [sp, #80]
-	bl	"_deerlapse_0_1_0::key_derivation::quic::initial_secret"
+	bl	"_deerlapse_0_1_0::key_derivation::quic::endpoint_secret"
 	ldrb	w8, [sp, #144]
 	ldur	q0, [x26, #3]
 	ldur	q1, [x26, #19]
@@ -13635,25 +13635,24 @@ _deerlapse_record_key_seal:             ; @deerlapse_record_key_seal
 	.cfi_offset w25, -72
 	.cfi_offset w26, -80
 	sub	x19, x4, #16
-	cmp	x5, x19
-	b.hs	Ldeerlapse_0_1_0_BB68_10
+	subs	x9, x19, x5
+	b.ls	Ldeerlapse_0_1_0_BB68_10
 ; %bb.3:                                ; %else.13.i
-	ldr	w9, [x0, #1920]
-	sub	w9, w9, #10
-	cmp	w9, #4
+	ldr	w10, [x0, #1920]
+	sub	w10, w10, #10
+	cmp	w10, #4
 	b.hi	Ldeerlapse_0_1_0_BB68_9
 ; %bb.4:                                ; %after.7.i
-	add	x9, x5, #1
+	add	x10, x5, #1
 	add	x20, x3, x8
-	cmp	x19, x9
+	cmp	x19, x10
 	strb	w2, [x20, x5]
 	b.eq	Ldeerlapse_0_1_0_BB68_8
-; %bb.5:                                ; %loop.5.preheader.i.i
-	sub	x8, x4, x5
-	add	x22, x20, x9
-	subs	x21, x8, #18
+; %bb.5:                                ; %loop.5.preheader.i.i.i
+	subs	x21, x9, #2
+	add	x22, x20, x10
 	b.eq	Ldeerlapse_0_1_0_BB68_7
-; %bb.6:                                ; %join.8.preheader.i.i
+; %bb.6:                                ; %join.8.preheader.i.i.i
 	mov	x23, x0
 	mov	x0, x22
 	mov	x24, x1
@@ -13663,9 +13662,9 @@ _deerlapse_record_key_seal:             ; @deerlapse_record_key_seal
 	mov	x1, x24
 	mov	x4, x25
 	mov	x0, x23
-Ldeerlapse_0_1_0_BB68_7:                                ; %after.4.i.i
+Ldeerlapse_0_1_0_BB68_7:                                ; %after.4.i.i.i
 	strb	wzr, [x22, x21]
-Ldeerlapse_0_1_0_BB68_8:                                ; %"core::slice::edits::slice+T::fill::<#47f65f08c1e6fbba>.exit.i"
+Ldeerlapse_0_1_0_BB68_8:                                ; %"records::inner::write_type_and_padding.exit.i"
 	rev	x8, x1
 Ldeerlapse_0_1_0_loh146:
 	adrp	x9, ldeerlapse_0_1_0_CPI68_0@PAGE

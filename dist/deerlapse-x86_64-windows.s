@@ -4853,12 +4853,12 @@
 	movdqu	%xmm0, (%rcx)
 	retq
                                         # -- End function
-	.def	"deerlapse_0_1_0::key_derivation::quic::initial_secret";
+	.def	"deerlapse_0_1_0::key_derivation::quic::endpoint_secret";
 	.scl	3;
 	.type	32;
 	.endef
 	.section	.rdata,"dr"
-	.p2align	4, 0x0                          # -- Begin function key_derivation::quic::initial_secret
+	.p2align	4, 0x0                          # -- Begin function key_derivation::quic::endpoint_secret
 .Ldeerlapse_0_1_0_CPI16_0:
 	.byte	56                              # 0x38
 	.byte	118                             # 0x76
@@ -4945,8 +4945,8 @@
 	.byte	0                               # 0x0
 	.byte	0                               # 0x0
 	.text
-"deerlapse_0_1_0::key_derivation::quic::initial_secret": # @"deerlapse_0_1_0::key_derivation::quic::initial_secret"
-.seh_proc "deerlapse_0_1_0::key_derivation::quic::initial_secret"
+"deerlapse_0_1_0::key_derivation::quic::endpoint_secret": # @"deerlapse_0_1_0::key_derivation::quic::endpoint_secret"
+.seh_proc "deerlapse_0_1_0::key_derivation::quic::endpoint_secret"
 # %bb.0:                                # %start
 	pushq	%r15
 	.seh_pushreg %r15
@@ -5090,7 +5090,7 @@
 	movq	%r12, %rdx
 	movq	%r15, %r8
 	movq	%r14, %r9
-	callq	"deerlapse_0_1_0::key_derivation::hkdf::write_label"
+	callq	"deerlapse_0_1_0::key_derivation::hkdf::write_hkdf_label"
 	leaq	56(%rsp), %rdx
 	movq	%r13, (%rdx)
 	movq	%rax, 8(%rdx)
@@ -5110,13 +5110,13 @@
 	retq
 	.seh_endproc
                                         # -- End function
-	.def	"deerlapse_0_1_0::key_derivation::hkdf::write_label";
+	.def	"deerlapse_0_1_0::key_derivation::hkdf::write_hkdf_label";
 	.scl	3;
 	.type	32;
 	.endef
-"deerlapse_0_1_0::key_derivation::hkdf::write_label":    # -- Begin function key_derivation::hkdf::write_label
-                                        # @"deerlapse_0_1_0::key_derivation::hkdf::write_label"
-.seh_proc "deerlapse_0_1_0::key_derivation::hkdf::write_label"
+"deerlapse_0_1_0::key_derivation::hkdf::write_hkdf_label": # -- Begin function key_derivation::hkdf::write_hkdf_label
+                                        # @"deerlapse_0_1_0::key_derivation::hkdf::write_hkdf_label"
+.seh_proc "deerlapse_0_1_0::key_derivation::hkdf::write_hkdf_label"
 # %bb.0:                                # %start
 	pushq	%r14
 	.seh_pushreg %r14
@@ -5158,7 +5158,7 @@
 .Ldeerlapse_0_1_0_BB18_10:                              # %apart.2.i.i.i.i.i.i.i22
 	movw	$8243, 4(%rax)                  # imm = 0x2033
 	movl	$829647988, (%rax)              # imm = 0x31736C74
-.Ldeerlapse_0_1_0_BB18_3:                               # %"key_derivation::hkdf::append.exit30"
+.Ldeerlapse_0_1_0_BB18_3:                               # %"key_derivation::hkdf::write_at.exit30"
 	movq	112(%rsp), %r14
 	leaq	9(%rbx), %rcx
 	movq	%rcx, %rax
@@ -5178,7 +5178,7 @@
 .Ldeerlapse_0_1_0_BB18_11:                              # %apart.2.i.i.i.i.i.i.i36
 	movq	%rsi, %r8
 	callq	memmove
-.Ldeerlapse_0_1_0_BB18_6:                               # %"key_derivation::hkdf::append.exit44"
+.Ldeerlapse_0_1_0_BB18_6:                               # %"key_derivation::hkdf::write_at.exit44"
 	leaq	(%rbx,%rsi), %rcx
 	addq	$10, %rcx
 	movb	%r14b, -1(%rcx)
@@ -5201,7 +5201,7 @@
 	movq	%rdi, %rdx
 	movq	%r14, %r8
 	callq	memmove
-.Ldeerlapse_0_1_0_BB18_9:                               # %"key_derivation::hkdf::append.exit74"
+.Ldeerlapse_0_1_0_BB18_9:                               # %"key_derivation::hkdf::write_at.exit74"
 	addq	%rsi, %r14
 	movq	%r14, %rax
 	addq	$40, %rsp
@@ -12438,7 +12438,7 @@
 	movq	%r12, %rdx
 	movq	%r15, %r8
 	movq	%r14, %r9
-	callq	"deerlapse_0_1_0::key_derivation::hkdf::write_label"
+	callq	"deerlapse_0_1_0::key_derivation::hkdf::write_hkdf_label"
 	leaq	56(%rsp), %rdx
 	movq	%r13, (%rdx)
 	movq	%rax, 8(%rdx)
@@ -13894,7 +13894,7 @@ deerlapse_quic_initial_secrets:         # @deerlapse_quic_initial_secrets
 	movl	%ebx, %edx
 	movq	%r14, %r8
 	movq	%rdi, %r9
-	callq	"deerlapse_0_1_0::key_derivation::quic::initial_secret"
+	callq	"deerlapse_0_1_0::key_derivation::quic::endpoint_secret"
 	movb	(%r15), %r12b
 	movb	2(%r15), %bpl
 	movups	3(%r15), %xmm0
@@ -13910,7 +13910,7 @@ deerlapse_quic_initial_secrets:         # @deerlapse_quic_initial_secrets
 	movl	%ebx, %edx
 	movq	%r14, %r8
 	movq	%rdi, %r9
-	callq	"deerlapse_0_1_0::key_derivation::quic::initial_secret"
+	callq	"deerlapse_0_1_0::key_derivation::quic::endpoint_secret"
 	movb	(%r15), %al
 	movb	2(%r15), %r14b
 	movups	3(%r15), %xmm0
@@ -16538,7 +16538,7 @@ deerlapse_record_key_seal:              # @deerlapse_record_key_seal
 	.seh_endprologue
 	xorl	%r10d, %r10d
 	testq	%r9, %r9
-	sete	%sil
+	sete	%dil
 	xorl	%eax, %eax
 	testb	%r8b, %r8b
 	je	.Ldeerlapse_0_1_0_BB68_10
@@ -16550,15 +16550,16 @@ deerlapse_record_key_seal:              # @deerlapse_record_key_seal
 # %bb.2:                                # %start
 	movq	216(%rsp), %r11
 	leaq	-16(%rbx), %r14
-	cmpq	%r14, %r11
-	jae	.Ldeerlapse_0_1_0_BB68_10
+	movq	%r14, %rsi
+	subq	%r11, %rsi
+	jbe	.Ldeerlapse_0_1_0_BB68_10
 # %bb.3:                                # %else.13.i
 	movl	1920(%rcx), %eax
 	addl	$-10, %eax
 	cmpl	$4, %eax
 	ja	.Ldeerlapse_0_1_0_BB68_4
 # %bb.5:                                # %after.7.i
-	movb	%sil, %r10b
+	movb	%dil, %r10b
 	shll	$12, %r10d
 	addq	%r10, %r9
 	leaq	(%r9,%r14), %r15
@@ -16566,27 +16567,25 @@ deerlapse_record_key_seal:              # @deerlapse_record_key_seal
 	leaq	1(%r11), %rax
 	cmpq	%rax, %r14
 	je	.Ldeerlapse_0_1_0_BB68_9
-# %bb.6:                                # %loop.5.preheader.i.i
-	leaq	(%r9,%r11), %rsi
-	incq	%rsi
-	movq	%rbx, %rdi
-	subq	%r11, %rdi
-	addq	$-18, %rdi
+# %bb.6:                                # %loop.5.preheader.i.i.i
+	leaq	(%r9,%r11), %rdi
+	incq	%rdi
+	addq	$-2, %rsi
 	je	.Ldeerlapse_0_1_0_BB68_8
-# %bb.7:                                # %join.8.preheader.i.i
+# %bb.7:                                # %join.8.preheader.i.i.i
 	movq	%rcx, %r12
-	movq	%rsi, %rcx
+	movq	%rdi, %rcx
 	movq	%rdx, %r13
 	xorl	%edx, %edx
-	movq	%rdi, %r8
+	movq	%rsi, %r8
 	movq	%r9, %rbp
 	callq	memset
 	movq	%r13, %rdx
 	movq	%rbp, %r9
 	movq	%r12, %rcx
-.Ldeerlapse_0_1_0_BB68_8:                               # %after.4.i.i
-	movb	$0, (%rsi,%rdi)
-.Ldeerlapse_0_1_0_BB68_9:                               # %"core::slice::edits::slice+T::fill::<#47f65f08c1e6fbba>.exit.i"
+.Ldeerlapse_0_1_0_BB68_8:                               # %after.4.i.i.i
+	movb	$0, (%rdi,%rsi)
+.Ldeerlapse_0_1_0_BB68_9:                               # %"records::inner::write_type_and_padding.exit.i"
 	bswapq	%rdx
 	movl	%edx, %eax
 	shrl	$24, %eax

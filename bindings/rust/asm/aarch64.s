@@ -3765,9 +3765,9 @@
 	.cfi_endproc
                                         // -- End function
 	.section	.text.deerlapse_key_derivation,"ax",@progbits
-	.p2align	2                               // -- Begin function key_derivation::quic::initial_secret
-	.type	"deerlapse_0_1_0::key_derivation::quic::initial_secret",@function
-"deerlapse_0_1_0::key_derivation::quic::initial_secret": // @"deerlapse_0_1_0::key_derivation::quic::initial_secret"
+	.p2align	2                               // -- Begin function key_derivation::quic::endpoint_secret
+	.type	"deerlapse_0_1_0::key_derivation::quic::endpoint_secret",@function
+"deerlapse_0_1_0::key_derivation::quic::endpoint_secret": // @"deerlapse_0_1_0::key_derivation::quic::endpoint_secret"
 	.cfi_startproc
 // %bb.0:                               // %start
 	sub	sp, sp, #480
@@ -3925,7 +3925,7 @@
 	.cfi_restore w29
 	ret
 .Ldeerlapse_0_1_0_func_end16:
-	.size	"deerlapse_0_1_0::key_derivation::quic::initial_secret", .Ldeerlapse_0_1_0_func_end16-"deerlapse_0_1_0::key_derivation::quic::initial_secret"
+	.size	"deerlapse_0_1_0::key_derivation::quic::endpoint_secret", .Ldeerlapse_0_1_0_func_end16-"deerlapse_0_1_0::key_derivation::quic::endpoint_secret"
 	.cfi_endproc
                                         // -- End function
 	.section	.text.deerlapse_key_derivation,"ax",@progbits
@@ -3973,7 +3973,7 @@
 	mov	x3, x22
 	mov	x4, x21
 	mov	w5, w19
-	bl	"deerlapse_0_1_0::key_derivation::hkdf::write_label"
+	bl	"deerlapse_0_1_0::key_derivation::hkdf::write_hkdf_label"
 	stp	x26, x0, [sp, #8]
 	add	x1, sp, #8
 	mov	x0, x25
@@ -4006,9 +4006,9 @@
 	.cfi_endproc
                                         // -- End function
 	.section	.text.deerlapse_key_derivation,"ax",@progbits
-	.p2align	2                               // -- Begin function key_derivation::hkdf::write_label
-	.type	"deerlapse_0_1_0::key_derivation::hkdf::write_label",@function
-"deerlapse_0_1_0::key_derivation::hkdf::write_label":    // @"deerlapse_0_1_0::key_derivation::hkdf::write_label"
+	.p2align	2                               // -- Begin function key_derivation::hkdf::write_hkdf_label
+	.type	"deerlapse_0_1_0::key_derivation::hkdf::write_hkdf_label",@function
+"deerlapse_0_1_0::key_derivation::hkdf::write_hkdf_label": // @"deerlapse_0_1_0::key_derivation::hkdf::write_hkdf_label"
 	.cfi_startproc
 // %bb.0:                               // %start
 	stp	x29, x30, [sp, #-64]!           // 16-byte Folded Spill
@@ -4056,7 +4056,7 @@
 	movk	w10, #12659, lsl #16
 	strh	w9, [x8, #4]
 	str	w10, [x8]
-.Ldeerlapse_0_1_0_BB18_4:                               // %"key_derivation::hkdf::append.exit30"
+.Ldeerlapse_0_1_0_BB18_4:                               // %"key_derivation::hkdf::write_at.exit30"
 	add	x8, x21, #9
 	sub	x9, x8, x1
 	cmp	x9, x22
@@ -4074,7 +4074,7 @@
 	add	x0, x21, #9
 	mov	x2, x22
 	bl	memmove
-.Ldeerlapse_0_1_0_BB18_8:                               // %"key_derivation::hkdf::append.exit44"
+.Ldeerlapse_0_1_0_BB18_8:                               // %"key_derivation::hkdf::write_at.exit44"
 	add	x23, x22, #10
 	add	x9, x21, x22
 	add	x0, x21, x23
@@ -4095,7 +4095,7 @@
 	mov	x1, x20
 	mov	x2, x19
 	bl	memmove
-.Ldeerlapse_0_1_0_BB18_12:                              // %"key_derivation::hkdf::append.exit74"
+.Ldeerlapse_0_1_0_BB18_12:                              // %"key_derivation::hkdf::write_at.exit74"
 	add	x0, x19, x23
 	.cfi_def_cfa wsp, 64
 	ldp	x20, x19, [sp, #48]             // 16-byte Folded Reload
@@ -4112,7 +4112,7 @@
 	.cfi_restore w29
 	ret
 .Ldeerlapse_0_1_0_func_end18:
-	.size	"deerlapse_0_1_0::key_derivation::hkdf::write_label", .Ldeerlapse_0_1_0_func_end18-"deerlapse_0_1_0::key_derivation::hkdf::write_label"
+	.size	"deerlapse_0_1_0::key_derivation::hkdf::write_hkdf_label", .Ldeerlapse_0_1_0_func_end18-"deerlapse_0_1_0::key_derivation::hkdf::write_hkdf_label"
 	.cfi_endproc
                                         // -- End function
 	.section	.text.deerlapse_key_derivation,"ax",@progbits
@@ -9774,7 +9774,7 @@
 	mov	x3, x22
 	mov	x4, x21
 	mov	w5, w19
-	bl	"deerlapse_0_1_0::key_derivation::hkdf::write_label"
+	bl	"deerlapse_0_1_0::key_derivation::hkdf::write_hkdf_label"
 	stp	x26, x0, [sp, #8]
 	add	x1, sp, #8
 	mov	x0, x25
@@ -11000,7 +11000,7 @@ deerlapse_quic_initial_secrets:         // @deerlapse_quic_initial_secrets
 	mov	w1, w23
 	mov	x3, x22
 	sub	x26, x29, #64
-	bl	"deerlapse_0_1_0::key_derivation::quic::initial_secret"
+	bl	"deerlapse_0_1_0::key_derivation::quic::endpoint_secret"
 	ldur	q0, [x26, #3]
 	ldur	q1, [x26, #19]
 	adrp	x4, .Ldeerlapse_0_1_0_static.8
@@ -11014,7 +11014,7 @@ deerlapse_quic_initial_secrets:         // @deerlapse_quic_initial_secrets
 	mov	x3, x22
 	stp	q0, q1, [sp, #48]
 	str	q2, [sp, #80]
-	bl	"deerlapse_0_1_0::key_derivation::quic::initial_secret"
+	bl	"deerlapse_0_1_0::key_derivation::quic::endpoint_secret"
 	ldurb	w8, [x29, #-64]
 	ldur	q0, [x26, #3]
 	ldur	q1, [x26, #19]
@@ -13502,25 +13502,24 @@ deerlapse_record_key_seal:              // @deerlapse_record_key_seal
 	.cfi_offset w30, -72
 	.cfi_offset w29, -80
 	sub	x19, x4, #16
-	cmp	x5, x19
-	b.hs	.Ldeerlapse_0_1_0_BB68_10
+	subs	x9, x19, x5
+	b.ls	.Ldeerlapse_0_1_0_BB68_10
 // %bb.3:                               // %else.13.i
-	ldr	w9, [x0, #1920]
-	sub	w9, w9, #10
-	cmp	w9, #4
+	ldr	w10, [x0, #1920]
+	sub	w10, w10, #10
+	cmp	w10, #4
 	b.hi	.Ldeerlapse_0_1_0_BB68_9
 // %bb.4:                               // %after.7.i
-	add	x9, x5, #1
+	add	x10, x5, #1
 	add	x20, x3, x8
-	cmp	x19, x9
+	cmp	x19, x10
 	strb	w2, [x20, x5]
 	b.eq	.Ldeerlapse_0_1_0_BB68_8
-// %bb.5:                               // %loop.5.preheader.i.i
-	sub	x8, x4, x5
-	add	x22, x20, x9
-	subs	x21, x8, #18
+// %bb.5:                               // %loop.5.preheader.i.i.i
+	subs	x21, x9, #2
+	add	x22, x20, x10
 	b.eq	.Ldeerlapse_0_1_0_BB68_7
-// %bb.6:                               // %join.8.preheader.i.i
+// %bb.6:                               // %join.8.preheader.i.i.i
 	mov	x23, x0
 	mov	x0, x22
 	mov	x24, x1
@@ -13531,9 +13530,9 @@ deerlapse_record_key_seal:              // @deerlapse_record_key_seal
 	mov	x1, x24
 	mov	x4, x25
 	mov	x0, x23
-.Ldeerlapse_0_1_0_BB68_7:                               // %after.4.i.i
+.Ldeerlapse_0_1_0_BB68_7:                               // %after.4.i.i.i
 	strb	wzr, [x22, x21]
-.Ldeerlapse_0_1_0_BB68_8:                               // %"core::slice::edits::slice+T::fill::<#47f65f08c1e6fbba>.exit.i"
+.Ldeerlapse_0_1_0_BB68_8:                               // %"records::inner::write_type_and_padding.exit.i"
 	rev	x8, x1
 	adrp	x9, .Ldeerlapse_0_1_0_CPI68_0
 	strb	w4, [x29, #28]

@@ -4958,7 +4958,7 @@
 	.cfi_endproc
                                         # -- End function
 	.section	.rodata.cst16,"aM",@progbits,16
-	.p2align	4, 0x0                          # -- Begin function key_derivation::quic::initial_secret
+	.p2align	4, 0x0                          # -- Begin function key_derivation::quic::endpoint_secret
 .Ldeerlapse_0_1_0_CPI16_0:
 	.byte	56                              # 0x38
 	.byte	118                             # 0x76
@@ -5045,8 +5045,8 @@
 	.byte	0                               # 0x0
 	.byte	0                               # 0x0
 	.section	.text.deerlapse_key_derivation,"ax",@progbits
-	.type	"deerlapse_0_1_0::key_derivation::quic::initial_secret",@function
-"deerlapse_0_1_0::key_derivation::quic::initial_secret": # @"deerlapse_0_1_0::key_derivation::quic::initial_secret"
+	.type	"deerlapse_0_1_0::key_derivation::quic::endpoint_secret",@function
+"deerlapse_0_1_0::key_derivation::quic::endpoint_secret": # @"deerlapse_0_1_0::key_derivation::quic::endpoint_secret"
 	.cfi_startproc
 # %bb.0:                                # %start
 	pushq	%rbp
@@ -5154,7 +5154,7 @@
 	.cfi_def_cfa_offset 8
 	retq
 .Ldeerlapse_0_1_0_func_end16:
-	.size	"deerlapse_0_1_0::key_derivation::quic::initial_secret", .Ldeerlapse_0_1_0_func_end16-"deerlapse_0_1_0::key_derivation::quic::initial_secret"
+	.size	"deerlapse_0_1_0::key_derivation::quic::endpoint_secret", .Ldeerlapse_0_1_0_func_end16-"deerlapse_0_1_0::key_derivation::quic::endpoint_secret"
 	.cfi_endproc
                                         # -- End function
 	.section	.text.deerlapse_key_derivation,"ax",@progbits
@@ -5200,7 +5200,7 @@
 	movq	%r14, %r8
 	movq	608(%rsp), %r9
                                         # kill: def $r9d killed $r9d killed $r9
-	callq	"deerlapse_0_1_0::key_derivation::hkdf::write_label"
+	callq	"deerlapse_0_1_0::key_derivation::hkdf::write_hkdf_label"
 	leaq	16(%rsp), %rsi
 	movq	%rbx, (%rsi)
 	movq	%rax, 8(%rsi)
@@ -5228,8 +5228,8 @@
 	.cfi_endproc
                                         # -- End function
 	.section	.text.deerlapse_key_derivation,"ax",@progbits
-	.type	"deerlapse_0_1_0::key_derivation::hkdf::write_label",@function # -- Begin function key_derivation::hkdf::write_label
-"deerlapse_0_1_0::key_derivation::hkdf::write_label":    # @"deerlapse_0_1_0::key_derivation::hkdf::write_label"
+	.type	"deerlapse_0_1_0::key_derivation::hkdf::write_hkdf_label",@function # -- Begin function key_derivation::hkdf::write_hkdf_label
+"deerlapse_0_1_0::key_derivation::hkdf::write_hkdf_label": # @"deerlapse_0_1_0::key_derivation::hkdf::write_hkdf_label"
 	.cfi_startproc
 # %bb.0:                                # %start
 	pushq	%r15
@@ -5275,7 +5275,7 @@
 .Ldeerlapse_0_1_0_BB18_10:                              # %apart.2.i.i.i.i.i.i.i22
 	movw	$8243, 4(%rax)                  # imm = 0x2033
 	movl	$829647988, (%rax)              # imm = 0x31736C74
-.Ldeerlapse_0_1_0_BB18_3:                               # %"key_derivation::hkdf::append.exit30"
+.Ldeerlapse_0_1_0_BB18_3:                               # %"key_derivation::hkdf::write_at.exit30"
 	leaq	9(%r12), %rdi
 	movq	%rdi, %rax
 	subq	%rsi, %rax
@@ -5294,7 +5294,7 @@
 .Ldeerlapse_0_1_0_BB18_11:                              # %apart.2.i.i.i.i.i.i.i36
 	movq	%r14, %rdx
 	callq	memmove@PLT
-.Ldeerlapse_0_1_0_BB18_6:                               # %"key_derivation::hkdf::append.exit44"
+.Ldeerlapse_0_1_0_BB18_6:                               # %"key_derivation::hkdf::write_at.exit44"
 	leaq	(%r12,%r14), %rdi
 	addq	$10, %rdi
 	movb	%bl, -1(%rdi)
@@ -5317,7 +5317,7 @@
 	movq	%r15, %rsi
 	movq	%rbx, %rdx
 	callq	memmove@PLT
-.Ldeerlapse_0_1_0_BB18_9:                               # %"key_derivation::hkdf::append.exit74"
+.Ldeerlapse_0_1_0_BB18_9:                               # %"key_derivation::hkdf::write_at.exit74"
 	addq	%r14, %rbx
 	movq	%rbx, %rax
 	addq	$8, %rsp
@@ -5332,7 +5332,7 @@
 	.cfi_def_cfa_offset 8
 	retq
 .Ldeerlapse_0_1_0_func_end18:
-	.size	"deerlapse_0_1_0::key_derivation::hkdf::write_label", .Ldeerlapse_0_1_0_func_end18-"deerlapse_0_1_0::key_derivation::hkdf::write_label"
+	.size	"deerlapse_0_1_0::key_derivation::hkdf::write_hkdf_label", .Ldeerlapse_0_1_0_func_end18-"deerlapse_0_1_0::key_derivation::hkdf::write_hkdf_label"
 	.cfi_endproc
                                         # -- End function
 	.section	.text.deerlapse_key_derivation,"ax",@progbits
@@ -12424,7 +12424,7 @@
 	movq	%r14, %r8
 	movq	608(%rsp), %r9
                                         # kill: def $r9d killed $r9d killed $r9
-	callq	"deerlapse_0_1_0::key_derivation::hkdf::write_label"
+	callq	"deerlapse_0_1_0::key_derivation::hkdf::write_hkdf_label"
 	leaq	16(%rsp), %rsi
 	movq	%rbx, (%rsi)
 	movq	%rax, 8(%rsi)
@@ -13860,7 +13860,7 @@ deerlapse_quic_initial_secrets:         # @deerlapse_quic_initial_secrets
 	movl	%ebp, %esi
 	movq	%r12, %rdx
 	movq	%r15, %rcx
-	callq	"deerlapse_0_1_0::key_derivation::quic::initial_secret"
+	callq	"deerlapse_0_1_0::key_derivation::quic::endpoint_secret"
 	movb	(%r13), %r14b
 	movb	2(%r13), %bl
 	movups	3(%r13), %xmm0
@@ -13875,7 +13875,7 @@ deerlapse_quic_initial_secrets:         # @deerlapse_quic_initial_secrets
 	movl	%ebp, %esi
 	movq	%r12, %rdx
 	movq	%r15, %rcx
-	callq	"deerlapse_0_1_0::key_derivation::quic::initial_secret"
+	callq	"deerlapse_0_1_0::key_derivation::quic::endpoint_secret"
 	movb	(%r13), %al
 	movb	2(%r13), %bpl
 	movups	3(%r13), %xmm0
@@ -16531,8 +16531,7 @@ deerlapse_record_key_seal:              # @deerlapse_record_key_seal
 	.cfi_offset %r14, -32
 	.cfi_offset %r15, -24
 	.cfi_offset %rbp, -16
-	movq	%r8, %rbx
-	xorl	%r8d, %r8d
+	xorl	%r14d, %r14d
 	testq	%rcx, %rcx
 	sete	%r11b
 	xorl	%eax, %eax
@@ -16540,49 +16539,51 @@ deerlapse_record_key_seal:              # @deerlapse_record_key_seal
 	je	.Ldeerlapse_0_1_0_BB68_10
 # %bb.1:                                # %start
 	movq	%r9, %r10
-	leaq	-16402(%rbx), %r9
+	leaq	-16402(%r8), %r9
 	cmpq	$-16385, %r9                    # imm = 0xBFFF
 	jb	.Ldeerlapse_0_1_0_BB68_10
 # %bb.2:                                # %start
-	leaq	-16(%rbx), %r9
-	cmpq	%r9, %r10
-	jae	.Ldeerlapse_0_1_0_BB68_10
+	leaq	-16(%r8), %r9
+	movq	%r9, %rbx
+	subq	%r10, %rbx
+	jbe	.Ldeerlapse_0_1_0_BB68_10
 # %bb.3:                                # %else.13.i
 	movl	1920(%rdi), %eax
 	addl	$-10, %eax
 	cmpl	$4, %eax
 	ja	.Ldeerlapse_0_1_0_BB68_4
 # %bb.5:                                # %after.7.i
-	movb	%r11b, %r8b
-	shll	$12, %r8d
-	addq	%r8, %rcx
-	leaq	(%rcx,%r9), %r13
+	movq	%r8, %r15
+	movb	%r11b, %r14b
+	shll	$12, %r14d
+	addq	%r14, %rcx
+	leaq	(%rcx,%r9), %r12
 	movb	%dl, (%rcx,%r10)
 	leaq	1(%r10), %rax
 	cmpq	%rax, %r9
 	je	.Ldeerlapse_0_1_0_BB68_9
-# %bb.6:                                # %loop.5.preheader.i.i
-	leaq	(%rcx,%r10), %r15
-	incq	%r15
-	movq	%rbx, %r14
-	subq	%r10, %r14
-	addq	$-18, %r14
+# %bb.6:                                # %loop.5.preheader.i.i.i
+	leaq	(%rcx,%r10), %r14
+	incq	%r14
+	addq	$-2, %rbx
 	je	.Ldeerlapse_0_1_0_BB68_8
-# %bb.7:                                # %join.8.preheader.i.i
-	movq	%rdi, 24(%rsp)                  # 8-byte Spill
-	movq	%r15, %rdi
-	movq	%rsi, %rbp
+# %bb.7:                                # %join.8.preheader.i.i.i
+	movq	%r12, 24(%rsp)                  # 8-byte Spill
+	movq	%rdi, %r12
+	movq	%r14, %rdi
+	movq	%rsi, %r13
 	xorl	%esi, %esi
-	movq	%r14, %rdx
-	movq	%rcx, %r12
+	movq	%rbx, %rdx
+	movq	%rcx, %rbp
 	callq	memset@PLT
-	movq	%rbp, %rsi
-	leaq	-16(%rbx), %r9
-	movq	24(%rsp), %rdi                  # 8-byte Reload
-	movq	%r12, %rcx
-.Ldeerlapse_0_1_0_BB68_8:                               # %after.4.i.i
-	movb	$0, (%r15,%r14)
-.Ldeerlapse_0_1_0_BB68_9:                               # %"core::slice::edits::slice+T::fill::<#47f65f08c1e6fbba>.exit.i"
+	movq	%r13, %rsi
+	leaq	-16(%r15), %r9
+	movq	%r12, %rdi
+	movq	24(%rsp), %r12                  # 8-byte Reload
+	movq	%rbp, %rcx
+.Ldeerlapse_0_1_0_BB68_8:                               # %after.4.i.i.i
+	movb	$0, (%r14,%rbx)
+.Ldeerlapse_0_1_0_BB68_9:                               # %"records::inner::write_type_and_padding.exit.i"
 	bswapq	%rsi
 	movl	%esi, %eax
 	shrl	$24, %eax
@@ -16617,8 +16618,9 @@ deerlapse_record_key_seal:              # @deerlapse_record_key_seal
 	movdqa	%xmm0, 48(%rsp)
 	movw	$791, 19(%rsp)                  # imm = 0x317
 	movb	$3, 21(%rsp)
-	movb	%bh, 22(%rsp)
-	movb	%bl, 23(%rsp)
+	movq	%r15, %rax
+	movb	%ah, 22(%rsp)
+	movb	%al, 23(%rsp)
 	leaq	48(%rsp), %rax
 	movq	%rax, (%rsp)
 	leaq	32(%rsp), %rsi
@@ -16628,7 +16630,7 @@ deerlapse_record_key_seal:              # @deerlapse_record_key_seal
 	callq	"deerlapse_0_1_0::deerlapse::key::deerlapse_key_seal"
                                         # kill: def $al killed $al def $eax
 	movaps	48(%rsp), %xmm0
-	movups	%xmm0, (%r13)
+	movups	%xmm0, (%r12)
 	jmp	.Ldeerlapse_0_1_0_BB68_10
 .Ldeerlapse_0_1_0_BB68_4:
 	xorl	%eax, %eax
