@@ -5,14 +5,14 @@ use Rattle.std.specs.Int.{to_be_bytes, w32}
 use Rattle.aead_ciphers_base.specs.Bytes.{each_below}
 use Rattle.aead_ciphers_base.specs.Aes.{aes}
 use Rattle.aead_ciphers.specs.Gcm.{gcm_sealed, tag_len}
-use Rattle.sealed_file.specs.declared.chunk.TheConstants.{CHUNK_LEN}
 use Rattle.sealed_file.specs.Derivation.{commitment}
 use Rattle.xaes.specs.Derivation.{derived_key}
 
--- the length of a chunk that is not the last, and of one that is also sealed
+-- the length of a chunk that is not the last, in bytes: 64 KiB
 abbrev pub chunk_len : ℕ
-chunk_len = CHUNK_LEN
+chunk_len = 65536
 
+-- the length of such a chunk when it is sealed, with its tag
 abbrev pub sealed_chunk_len : ℕ
 sealed_chunk_len = chunk_len + tag_len
 
