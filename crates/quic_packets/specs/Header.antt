@@ -1,8 +1,6 @@
 -- Header protection (RFC 9001 section 5.4). Bytes are taken by index.
-use Rattle.std.specs.Prelude.{◌≡◌, ◌≢◌, ℕ, ◌+◌, ◌<◌, ◌≤◌, ◌==◌, ◌↔◌, if◌then◌else◌, ◌⊎◌, ⊤, List, length, bit_and, bit_xor, slice_index, slice_range, Result, IsOk, IsErrOf, OnOk, OnErr}
+use Rattle.std.specs.Prelude.{◌≡◌, ℕ, ◌+◌, ◌<◌, ◌≤◌, ◌==◌, if◌then◌else◌, ◌⊎◌, List, length, bit_and, bit_xor, slice_index, slice_range}
 use Rattle.aead_ciphers.specs.HeaderProtection.{HeaderKey, header_protection}
-use Rattle.quic_packets.specs.declared.mask_error.MaskError.{MaskError}
-use Rattle.quic_packets.specs.declared.mask_error.MaskError.TheVariants.{NoSample, NumberLength}
 
 -- the length of the packet number in bytes, from the low two bits of the unmasked first byte (section 5.4.1)
 abbrev pub number_len : ℕ → ℕ
@@ -38,17 +36,6 @@ pub record MaskedParts (mask : List ℕ) (n was : ℕ) (number_was : List ℕ) (
       → slice_index number_now i ≡ bit_xor (slice_index number_was i) (slice_index mask (i + 1))
   pub others : (i : ℕ) → n ≤ i → slice_index number_now i ≡ slice_index number_was i
   pub len : length number_now ≡ length number_was
-
--- What becomes of a header's first byte and packet number, which are masked or unmasked by a sample, where the packet number
--- has n bytes: they are masked, or refused and unchanged.
-pub record MaskOutcome (key : HeaderKey) (sample : List ℕ) (n was : ℕ) (number_was : List ℕ) (result : Result ⊤ MaskError)
-    (now : ℕ) (number_now : List ℕ) : Type 0 where
-  pub accepted : IsOk result ↔ ((length sample ≡ 16) × (length number_was ≤ 4))
-  pub no_sample : IsErrOf result NoSample ↔ (length sample ≢ 16)
-  pub number_len : IsErrOf result NumberLength ↔ ((length sample ≡ 16) × (4 < length number_was))
-  pub masked : OnOk result (MaskedParts (header_protection key.algorithm key.bytes sample) n was number_was now number_now)
-  pub first_kept : OnErr result (now ≡ was)
-  pub number_kept : OnErr result (number_now ≡ number_was)
 
 -- Protecting reads the length of the packet number before the first byte is masked (section 5.4.1).
 abbrev pub Protected : HeaderKey → ℕ → List ℕ → List ℕ → Type 0

@@ -3,7 +3,7 @@
 ghost use Rattle.std.specs.Prelude.{◌≡◌, ◌≢◌, ℕ, ◌+◌, ◌<◌, ◌≤◌, ◌↔◌, ◌⊎◌, length, IsOk, IfOk, OnOk, OnErr, IsErrOf, IsOkUnless, bit_xor, slice_index, slice_range};
 ghost use Rattle.aead_ciphers.specs.HeaderProtection.{header_protection, key_len};
 ghost use Rattle.quic_packets.specs.Keys.{secret_header_key};
-ghost use Rattle.quic_packets.specs.Header.{HasMaskedBytes, HasSample, MaskOutcome, Protected, Unprotected, first_mask, number_len};
+ghost use Rattle.quic_packets.specs.Header.{HasMaskedBytes, HasSample, MaskedParts, Protected, Unprotected, first_mask, number_len};
 
 use crate::first_byte::{LONG_MASKED_BITS, NUMBER_LEN_BITS, SHORT_MASKED_BITS, is_long};
 use crate::key_error::KeyError;
@@ -73,8 +73,14 @@ impl HeaderKey {
         first: &mut u8,
         number: &mut [u8],
     ) -> Result<(), MaskError>
-        ensures outcome { MaskOutcome self.now sample.now (number_len first.old) first.old number.old result
-            first.new number.new }
+        ensures accepted { IsOk result ↔ ((length sample.now ≡ 16) × (length number.old ≤ 4)) }
+        ensures no_sample { IsErrOf result MaskError.NoSample ↔ (length sample.now ≢ 16) }
+        ensures number_len { IsErrOf result MaskError.NumberLength
+            ↔ ((length sample.now ≡ 16) × (4 < length number.old)) }
+        ensures masked { OnOk result (MaskedParts (header_protection self.now.algorithm self.now.bytes sample.now)
+            (number_len first.old) first.old number.old first.new number.new) }
+        ensures first_kept { OnErr result (first.new ≡ first.old) }
+        ensures number_kept { OnErr result (number.new ≡ number.old) }
     {
         let mask = self.mask_of_sample(sample, number)?;
         let number_len = number_len_in(*first);
@@ -95,8 +101,14 @@ impl HeaderKey {
         first: &mut u8,
         number: &mut [u8],
     ) -> Result<(), MaskError>
-        ensures outcome { MaskOutcome self.now sample.now (number_len first.new) first.old number.old result
-            first.new number.new }
+        ensures accepted { IsOk result ↔ ((length sample.now ≡ 16) × (length number.old ≤ 4)) }
+        ensures no_sample { IsErrOf result MaskError.NoSample ↔ (length sample.now ≢ 16) }
+        ensures number_len { IsErrOf result MaskError.NumberLength
+            ↔ ((length sample.now ≡ 16) × (4 < length number.old)) }
+        ensures masked { OnOk result (MaskedParts (header_protection self.now.algorithm self.now.bytes sample.now)
+            (number_len first.new) first.old number.old first.new number.new) }
+        ensures first_kept { OnErr result (first.new ≡ first.old) }
+        ensures number_kept { OnErr result (number.new ≡ number.old) }
     {
         let mask = self.mask_of_sample(sample, number)?;
         *first ^= first_mask(*first, mask[0]);
