@@ -187,8 +187,8 @@ def written(value, said):
     return str(value) if len(said) > 3 and "," not in said else f"{value:,}"
 
 
-def compare(document, text, mark, value):
-    """What is wrong with the value after a mark, if anything."""
+def compare(document, text, mark, value, place):
+    """What is wrong with the value after a mark, if anything. `place` says where its source is."""
     form = {str: CODE, float: RATIO}.get(type(value), NUMBER)
     said = form.match(text, mark.end())
     if said is None:
@@ -197,7 +197,7 @@ def compare(document, text, mark, value):
         return
     right = written(value, said[0])
     if said[0] != right and (form is not NUMBER or number_in(said[0]) != value):
-        message = f"{line_of(document, text, said.start())}: {mark[1]} is {said[0]} here, and {right} in its source"
+        message = f"{line_of(document, text, said.start())}: {mark[1]} is {said[0]} here, and {right} by {place}"
         yield Fault(message, document, *said.span(), right)
 
 
@@ -230,7 +230,7 @@ def compared(texts, shown):
     values, marked, count, found = {}, {}, 0, []
     for name, (source, *_) in FACTS.items():
         try:
-            values[name] = source()
+            values[name] = source(), f"tools/snippets.d/facts.py:{source.__code__.co_firstlineno}"
         except (KeyError, OSError, TypeError, ValueError) as error:
             found.append(Fault(f"the source of the fact {name} isn't found: {error}"))
     for document, text in texts.items():
@@ -240,7 +240,7 @@ def compared(texts, shown):
             marked[document].add(mark[1])
             if mark[1] in values:
                 count += 1
-                found += compare(document, text, mark, values[mark[1]])
+                found += compare(document, text, mark, *values[mark[1]])
             elif mark[1] not in (*FACTS, LINES):
                 found.append(Fault(f"{line_of(document, text, mark.start())}: there is no fact {mark[1]}"))
     return count, found + list(unmarked(marked))

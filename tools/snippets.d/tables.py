@@ -291,7 +291,7 @@ def compared_sums(document, text, shown, counts):
     for mark, end in zip(marks, bounds[1:]):
         below = [count for start, count in counts.items() if mark.start() < start < end]
         if below:
-            found += compare(document, text, mark, sum(below))
+            found += compare(document, text, mark, sum(below), "the tables below it")
         else:
             found.append(Fault(f"{line_of(document, text, mark.start())}: no table of lines below {mark[0].strip()}"))
     return len(marks), found

@@ -1,4 +1,7 @@
-//! Laws of the definitions. Each function does nothing when it is called; its contract states a law for its arguments.
+//! Laws that follow from the definitions of AES-GCM and ChaCha20, such as that opening undoes sealing, that sealing spends no
+//! nonce twice, and how few hash subkeys accept a forged message.
+//!
+//! Each function does nothing when it is called; its contract states a law for its arguments.
 
 ghost use Rattle.std.specs.Prelude.{◌≡◌, ◌≢◌, ℕ, ◌^◌, ◌-◌, ◌<◌, ◌≤◌, ◌⊎◌, Bool, List, length, max, vec_len, All, AllPairs};
 ghost use Rattle.aead_ciphers_base.specs.Aes.{aes};

@@ -1,4 +1,4 @@
-//! Building blocks: comparing and XORing bytes.
+//! Building blocks of the ciphers: comparing two slices of bytes, and XORing blocks and slices.
 
 ghost use Rattle.std.specs.Prelude.{◌≡◌, ◌↔◌, ◌++◌, IsOk, IsTrue, bit_xor, drop, length, map};
 ghost use Rattle.aead_ciphers_base.specs.Bytes.{◌⊕◌};

@@ -1,4 +1,4 @@
-//! Transforming blocks while they are moved to the front of a slice.
+//! `shift_full_blocks`, which maps each block of an overlapping buffer by a closure, and writes the results at the front of its slice.
 
 ghost use Rattle.std.specs.Prelude.{◌≡◌, ◌%◌, ◌<◌};
 ghost use Rattle.aead_ciphers_base.specs.Overlapping.{input_len, input_of};

@@ -1,4 +1,4 @@
-//! The trait of words that consist of lanes of 64 bits.
+//! The trait `Lanes`, of words that consist of lanes of 64 bits, each of which is shifted by itself.
 
 ghost use Rattle.std.specs.Prelude.{◌≡◌, ◌<◌, ◌*◌, ◌/◌, ◌%◌, ◌^◌, ℕ};
 ghost use Rattle.aead_ciphers_wide.specs.Word.{lane_of};

@@ -1,4 +1,4 @@
-//! Byte permutes of vectors.
+//! `look_up`, a byte permute: it replaces each byte of a vector by the byte of a table of 16 bytes to which it points.
 
 ghost use Rattle.std.specs.Prelude.{◌≡◌, ◌<◌, ◌≤◌, ◌⊎◌, ℕ, map, slice_index};
 

@@ -1,4 +1,4 @@
-//! Numbers of 128 bits in vectors.
+//! `Word`, a number of 128 bits in a vector: a plane of eight AES blocks, or a block of GHASH.
 
 ghost use Rattle.std.specs.Prelude.{◌≡◌, ◌<◌, ◌+◌, ◌*◌, ◌/◌, ◌^◌, ℕ, bit_xor, bit_and, slice_index};
 ghost use Rattle.std.specs.Int.{bit_at, to_le_bytes, w128};

@@ -129,7 +129,8 @@ abbrev pub following : Option Sender → (was now : Bool) → Option Sender
 following sender was now = if differ was now then in_phase sender now else sender
 
 -- The kind of the key update by which the peer begins to send in this key phase. If this endpoint already sends in that phase,
--- it has initiated the update, and the peer answers. Otherwise the peer has initiated it (RFC 9001 sections 6.1 and 6.2).
+-- it has initiated the update, and this is the peer's update in response to it. Otherwise the peer has initiated the update (RFC
+-- 9001 sections 6.1 and 6.2).
 abbrev pub update_into : Option Sender → (phase : Bool) → PeerUpdate
 update_into None phase = Initiated
 update_into (Some s) phase = if differ s.phase phase then Initiated else Answered

@@ -95,7 +95,7 @@ messages_read part [] = []
 messages_read part (content ∷ later) = messages_of (part ++ content) ++ messages_read (part_of (part ++ content)) later
 
 -- a reader: the message that it has found, or no bytes if it has found none, the part of a message that it keeps, the most bytes
--- that a message may have, the stage, which decides which messages may come, and whether it has rejected a message
+-- that a message may have, which messages may come (RFC 8446 section 4), and whether it has rejected a message
 pub record Joining : Type 0 where
   pub message : List ℕ
   pub part : List ℕ

@@ -109,7 +109,7 @@ Refuses stage bound part kept rest DataAfterKeys =
     IsMessage kept × IsExpected stage bound kept × RefusesMessage kept rest DataAfterKeys
 Refuses stage bound part kept rest error = (length kept ≡ max 4 (length part)) × RefusesHeader stage bound kept error
 
--- the bound and the stage stay the same
+-- the most bytes that a message may have, and which messages may come, stay the same
 abbrev pub KeepsRules : Joining → Joining → Type 0
 KeepsRules was now = (now.bound ≡ was.bound) × (now.stage ≡ was.stage)
 

@@ -79,8 +79,8 @@ impl<'b> MessageReader<'b> {
         }
     }
 
-    /// Sets the stage, which decides which messages may come from now on, also if a message is cut. The stage changes with the
-    /// peer's Finished, for example.
+    /// Sets which messages may come from now on (RFC 8446 sections 4 and 4.6), also if a message is cut. After the peer's
+    /// Finished, for example, other messages may come than before.
     ///
     /// # Examples
     ///
@@ -103,7 +103,7 @@ impl<'b> MessageReader<'b> {
         self.stage = stage;
     }
 
-    /// Returns the stage, which decides which messages may come.
+    /// Returns the `Stage` that decides which messages may come.
     pub fn stage(&self) -> Stage
         ensures { result ≡ self.now.stage }
     {

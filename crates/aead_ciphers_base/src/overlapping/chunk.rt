@@ -1,4 +1,4 @@
-//! The trait of chunks of a fixed number of items, which closures map.
+//! The trait `Chunk`, of arrays that stand for a fixed number of items of a slice, and closures that map one of them.
 
 ghost use Rattle.std.specs.Prelude.{◌≡◌, ◌↔◌, ℕ, ◌+◌, ◌≤◌, List, IsSome, IfSome, drop, length, take};
 ghost use Rattle.aead_ciphers_base.specs.Overlapping.{MapsChunk, TakesChunk};

@@ -1,4 +1,4 @@
-//! Numbers of 256 bits in vectors.
+//! `WiderWord`, a number of 256 bits in a vector: a plane of sixteen AES blocks.
 
 ghost use Rattle.std.specs.Prelude.{◌≡◌, ◌+◌, ◌*◌, ◌^◌, ℕ, bit_xor, bit_and};
 ghost use Rattle.aead_ciphers_wide.specs.WidePlanes.{place_of_sixteen, place_of_sixteen_within};

@@ -199,7 +199,7 @@ fn another_stage(rt: HostRuntime) {
         let mut messages = MessageReader::new(&mut buffer, *first);
         let _ = count(&mut messages, rt.alloc(), &[*before]);
         messages.set_stage(*second);
-        equal(&rt, messages.stage(), *second, "the stage");
+        equal(&rt, messages.stage(), *second, "what `stage` returns");
         let found = count(&mut messages, rt.alloc(), &[*after]);
         equal(&rt, (after, found), (after, *expected), "messages");
     }
