@@ -2,7 +2,7 @@
 //! OpenSSL.
 
 use crate::tests::captured::CAPTURED;
-use crate::tests::checks::{equal, holds, same};
+use crate::tests::checks::{displays, equal, holds, same};
 use crate::tests::connection::{Direction, bytes_of, end_of_handshake};
 use key_derivation::{Secret, Suite};
 use records::ContentType::{Alert, ApplicationData, Handshake};
@@ -410,6 +410,46 @@ fn connections_of_openssl(rt: HostRuntime) -> Result<(), Fail> {
             Stage::Client
         };
         is_received(&rt, rt.alloc(), direction, stage)?;
+    }
+    Ok(())
+}
+
+/// Errors, their texts, and the alerts they call for (RFC 8446 section 6), with 0 for none.
+const TEXTS: [(ReceiveError, &str, u8); 6] = [
+    (
+        ReceiveError::Record(RecordError::Refused),
+        "a record is rejected: the record is not authentic",
+        20,
+    ),
+    (
+        ReceiveError::Message(MessageError::KeyUpdateLength),
+        "a handshake message is rejected: a KeyUpdate does not have one byte",
+        50,
+    ),
+    (ReceiveError::Alert(47), "the peer has sent alert 47", 0),
+    (
+        ReceiveError::TooManyKeyUpdates,
+        "too many KeyUpdates came in a row",
+        10,
+    ),
+    (
+        ReceiveError::OutOfMemory,
+        "no memory for what was received",
+        80,
+    ),
+    (
+        ReceiveError::Ended,
+        "the connection receives nothing more",
+        0,
+    ),
+];
+
+#[test]
+fn texts_and_alerts(rt: HostRuntime) -> Result<(), Fail> {
+    for (error, text, alert) in &TEXTS {
+        displays(&rt, error, text)?;
+        let found = error.alert().map_or(0, |alert| alert as u8);
+        equal(&rt, found, *alert, text);
     }
     Ok(())
 }
