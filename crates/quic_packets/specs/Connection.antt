@@ -1,6 +1,7 @@
 -- The state of one endpoint of a connection, and what becomes of a packet that it sends or receives (RFC 9000 sections 12.2 and
 -- 12.3, RFC 9001 sections 4.9, 5.7 and 6).
 use Rattle.std.specs.Prelude.{◌≡◌, ℕ, ◌+◌, ◌<◌, ◌≤◌, ◌⊎◌, Bool, true, false, IsFalse, if◌then◌else◌, List, length, slice_range, Option, None, Some, IsSome, IfSome, Result, Ok, Err, IfOk, OnErr, is_some, unwrap_or, slice_index}
+use Rattle.aead_ciphers.specs.Gcm.{tag_len}
 use Rattle.quic_packets.specs.Datagram.{next_after, packet_of}
 use Rattle.quic_packets.specs.Ends.{Ends, following, initiates_update, kept_for_close, peer_update, phase_of, sent, updated_if_due, with_next_key}
 use Rattle.quic_packets.specs.Errors.{receive_error_code}
@@ -228,7 +229,7 @@ pub record StepOutcome (c c' : Connection) (id_len : ℕ) (id old new : List ℕ
   pub next : IfOk result (λ step. step.next ≡ next_packet_at (packet_of c.fixed_bit id_len old at) (length old))
   pub moves_on : at < length old → IfOk result (λ step. (at < step.next) × (step.next ≤ length old))
   pub payload : IfPacket result (λ _ r. (at < r.payload.start) × (r.payload.start ≤ r.payload.end)
-      × (r.payload.end + 16 ≤ length old))
+      × (r.payload.end + tag_len ≤ length old))
   pub kept : OnErr result (c' ≡ c)
   pub outside : (i : ℕ) → (i < at) ⊎ (next_packet_at (packet_of c.fixed_bit id_len old at) (length old) ≤ i)
       → slice_index new i ≡ slice_index old i

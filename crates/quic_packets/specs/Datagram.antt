@@ -3,6 +3,7 @@
 use Rattle.std.specs.Prelude.{◌≡◌, ℕ, ◌<◌, ◌≤◌, ◌+◌, ◌-◌, ◌*◌, ◌/◌, ◌%◌, ◌^◌, ◌⊎◌, unwrap_or, Bool, ◌==◌, ◌||◌, nat_lt, max, if◌then◌else◌, List, length, slice_index, slice_range, Option, None, Some, is_some, IfSome, Result, Ok, Err}
 use Rattle.std.specs.Int.Digits.{number_from_digits}
 use Rattle.std.specs.declared.ops.Range.{Range}
+use Rattle.aead_ciphers.specs.Gcm.{tag_len}
 use Rattle.key_derivation.specs.Quic.{numbered_version}
 use Rattle.key_derivation.specs.declared.quic.Version.{Version}
 use Rattle.quic_packets.specs.FixedBit.{lacks_fixed_bit}
@@ -79,8 +80,8 @@ initial_token datagram start =
 -- 12.2 and 17.2.5).
 abbrev pub retry_layout : List ℕ → ℕ → Packet
 retry_layout datagram start =
-    let from = source_end datagram start in let end = max (from + 16) (length datagram) in
-    long_layout datagram start Retry (span from (end - 16)) None end
+    let from = source_end datagram start in let end = max (from + tag_len) (length datagram) in
+    long_layout datagram start Retry (span from (end - tag_len)) None end
 
 -- A packet of version 1 or 2, by its type. Only an Initial packet has a token before its Length field.
 abbrev pub typed_layout : PacketType → List ℕ → ℕ → Packet

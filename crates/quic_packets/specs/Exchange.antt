@@ -1,6 +1,7 @@
 -- The packets that a sender has sent over its life, and the packets that a receiver returns for them. The laws are stated with
 -- these.
 use Rattle.std.specs.Prelude.{◌≡◌, ℕ, ◌+◌, ◌-◌, ◌<◌, ◌≤◌, ◌↔◌, ◌⊎◌, if◌then◌else◌, max, min, true, nat_lt, nat_le, false, List, [], ◌∷◌, length, take, slice_index, Option, None, Some, IsSome, Contains, Result, IsOk, IfOk, IsErrOf}
+use Rattle.aead_ciphers.specs.Gcm.{tag_len}
 use Rattle.aead_ciphers.specs.HeaderProtection.{HeaderKey}
 use Rattle.key_derivation.specs.Quic.{QuicSecretState}
 use Rattle.key_derivation.specs.declared.quic.Version.{Version}
@@ -103,10 +104,10 @@ pub record GivesBack (space : Space) (start : ℕ) (packet : Sent) (result : Res
   pub duplicate : IsErrOf result Duplicate ↔ ¬ IsNew space packet.number
   pub returns : IfOk result (λ r. r ≡ record {
     number = packet.number;
-    payload = span (start + packet.header_len) (start + (length packet.packet - 16));
+    payload = span (start + packet.header_len) (start + (length packet.packet - tag_len));
     phase = has_phase (slice_index packet.packet 0);
   })
-  pub bytes : take (length packet.packet - 16) opened ≡ take (length packet.packet - 16) packet.packet
+  pub bytes : take (length packet.packet - tag_len) opened ≡ take (length packet.packet - tag_len) packet.packet
 
 -- The numbers that a space of some words has counted as received, the last one first. Each was new.
 pub data Counts : Space → List ℕ → Type 0 where

@@ -1,6 +1,7 @@
 -- The bytes of a header of version 1 or 2 up to its packet number, before protection (RFC 9000 section 17, RFC 9369 section 3).
 use Rattle.std.specs.Prelude.{◌≡◌, ℕ, ◌+◌, ◌-◌, ◌*◌, ◌^◌, ◌<◌, ◌≤◌, Bool, nat_lt, if◌then◌else◌, List, [], ◌∷◌, ◌++◌, length, take, drop, slice_range, None, Some}
 use Rattle.std.specs.Int.{bytes_high_first}
+use Rattle.aead_ciphers.specs.Gcm.{tag_len}
 use Rattle.key_derivation.specs.Quic.{version_number}
 use Rattle.key_derivation.specs.declared.quic.Version.{Version}
 use Rattle.quic_packets.specs.Versions.{type_bits}
@@ -45,7 +46,7 @@ token_field Handshake = []
 -- The value of Length: the number of bytes of the packet number and of the payload, which ends with a tag of 16 bytes (section
 -- 17.2, RFC 9001 section 5.3).
 abbrev pub length_of : LongHeader → ℕ
-length_of header = header.number_len + header.payload_len + 16
+length_of header = header.number_len + header.payload_len + tag_len
 
 -- The base-2 logarithm of the length of Length: it has two bytes, or four from 2^14 on.
 abbrev pub length_log : ℕ → ℕ

@@ -3,7 +3,7 @@
 use Rattle.std.specs.Prelude.{◌≡◌, ℕ, ◌+◌, ◌-◌, ◌^◌, ◌<◌, List, length, take, drop, slice_index, slice_range}
 use Rattle.std.specs.Int.{to_be_bytes, w64}
 use Rattle.aead_ciphers_base.specs.Aes.{aes}
-use Rattle.aead_ciphers.specs.Gcm.{gcm_tag}
+use Rattle.aead_ciphers.specs.Gcm.{gcm_tag, tag_len}
 use Rattle.quic_packets.specs.Header.{number_len}
 
 -- a packet number is below 2^62 (RFC 9000 section 12.3)
@@ -12,7 +12,7 @@ IsNumber number = number < 2 ^ 62
 
 -- the last 16 bytes are the tag of the ciphertext before them, with the header as AAD
 abbrev pub EndsWithTag : (key nonce header : List ℕ) → List ℕ → Type 0
-EndsWithTag key nonce header body = let n = length body - 16 in drop n body ≡ gcm_tag (aes key) nonce header (take n body)
+EndsWithTag key nonce header body = let n = length body - tag_len in drop n body ≡ gcm_tag (aes key) nonce header (take n body)
 
 -- the packet ends with the tag of its ciphertext, with the header as AAD
 abbrev pub IsGenuine : (key nonce : List ℕ) (header_len : ℕ) → List ℕ → Type 0

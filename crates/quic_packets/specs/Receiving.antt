@@ -3,6 +3,7 @@
 use Rattle.std.specs.Prelude.{◌≡◌, ◌≢◌, ℕ, ◌+◌, ◌-◌, ◌<◌, ◌≤◌, ◌==◌, ◌↔◌, if◌then◌else◌, min, max, Bool, true, false, not, nat_lt, List, length, slice_index, slice_range, bit_and, Option, None, Some, IsSome, is_some, unwrap_or, Result, IsOk, IfOk, OnOk, ◌⊎◌, IsTrue, IsFalse, IfErr, OnErr, Err}
 use Rattle.std.specs.Int.Digits.{number_from_digits}
 use Rattle.aead_ciphers.specs.Counting.{xored_nonce}
+use Rattle.aead_ciphers.specs.Gcm.{tag_len}
 use Rattle.aead_ciphers.specs.HeaderProtection.{HeaderKey}
 use Rattle.aead_ciphers.specs.Packet.{OpenedPacket, PacketFits}
 use Rattle.key_derivation.specs.Quic.{QuicSecretState, next_quic_secret}
@@ -150,7 +151,7 @@ Opens r number_at plain number opened =
 abbrev pub of_packet : (start number_at : ℕ) (plain : List ℕ) (number : ℕ) → Received
 of_packet start number_at plain number = record {
   number = number;
-  payload = span (start + header_len number_at plain) (start + (length plain - 16));
+  payload = span (start + header_len number_at plain) (start + (length plain - tag_len));
   phase = has_phase (slice_index plain 0);
 }
 
@@ -254,7 +255,7 @@ pub record ReceiveOutcome (r : Receiver) (s : Space) (f : Failures) (parts : Pac
       × Reads r.header s.next (number_in parts) (bytes_of parts old) plain number
       × Outcome r s parts.start (number_in parts) plain number result r' (bytes_of parts new)
   pub payload : IfOk result (λ p. (parts.start < p.payload.start) × (p.payload.start ≤ p.payload.end)
-      × (p.payload.end + 16 ≡ parts.end) × (parts.end ≤ length old))
+      × (p.payload.end + tag_len ≡ parts.end) × (parts.end ≤ length old))
   pub marked : IfOk result (λ p. IsNew s p.number × Marks s p.number s')
   pub counted : f' ≡ failures_after f result
   pub kept : OnErr result ((r' ≡ r) × (s' ≡ s))

@@ -1,7 +1,7 @@
 -- The integrity of Retry packets (RFC 9001 section 5.8, RFC 9369 section 3.3.3). A Retry packet ends with its tag of 16 bytes.
 use Rattle.std.specs.Prelude.{◌≡◌, ℕ, ◌-◌, ◌^◌, ◌<◌, ◌≤◌, List, [], ◌∷◌, ◌++◌, length, take, drop}
 use Rattle.aead_ciphers_base.specs.Aes.{aes}
-use Rattle.aead_ciphers.specs.Gcm.{gcm_tag}
+use Rattle.aead_ciphers.specs.Gcm.{gcm_tag, tag_len}
 use Rattle.key_derivation.specs.declared.quic.Version.{Version}
 use Rattle.key_derivation.specs.declared.quic.Version.TheVariants.{One, Two}
 
@@ -32,6 +32,6 @@ IsShortPseudoPacket original_id retry = length (pseudo_packet original_id retry)
 
 -- the packet ends with the tag of the bytes before it
 pub record IsGenuineRetry (version : Version) (original_id packet : List ℕ) : Type 0 where
-  pub tagged : 16 ≤ length packet
-  pub short : IsShortPseudoPacket original_id (take (length packet - 16) packet)
-  pub tag : drop (length packet - 16) packet ≡ integrity_tag version original_id (take (length packet - 16) packet)
+  pub tagged : tag_len ≤ length packet
+  pub short : IsShortPseudoPacket original_id (take (length packet - tag_len) packet)
+  pub tag : drop (length packet - tag_len) packet ≡ integrity_tag version original_id (take (length packet - tag_len) packet)

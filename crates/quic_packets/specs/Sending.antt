@@ -3,7 +3,7 @@
 use Rattle.std.specs.Prelude.{◌≡◌, ◌≢◌, ℕ, ◌+◌, ◌-◌, ◌^◌, ◌<◌, ◌≤◌, ◌↔◌, ◌⊎◌, Bool, true, false, not, nat_lt, nat_le, min, max, ◌==◌, ◌&&◌, ◌||◌, if◌then◌else◌, IsTrue, IsFalse, List, [], ◌∷◌, ◌++◌, Option, None, Some, Result, IsOk, IfOk, IfErr, OnOk, OnErr, length, take, drop, bit_and, bit_or, slice_index, slice_set}
 use Rattle.aead_ciphers.specs.Algorithm.{key_len}
 use Rattle.aead_ciphers.specs.Counting.{xored_nonce}
-use Rattle.aead_ciphers.specs.Gcm.{Fits}
+use Rattle.aead_ciphers.specs.Gcm.{Fits, tag_len}
 use Rattle.aead_ciphers.specs.HeaderProtection.{HeaderKey, key_len as header_key_len}
 use Rattle.aead_ciphers.specs.Packet.{PacketFits, sealed_packet}
 use Rattle.key_derivation.specs.Quic.{QuicSecretState, next_quic_secret}
@@ -116,7 +116,7 @@ pub record IsSealable (version : Version) (fixed_bit : FixedBit) (start end : �
   pub protected : is_retry_or_version_negotiation version packet ≡ false
   pub of_version : is_other_version version (header_version packet) ≡ false
   pub fixed : lacks_fixed_bit fixed_bit (header_version packet) (slice_index packet 0) ≡ false
-  pub payload : end + 16 < length packet
+  pub payload : end + tag_len < length packet
 
 -- the key may seal another packet, and a number is left
 pub record IsOpen (s : Sender) : Type 0 where
@@ -211,8 +211,8 @@ with_installed_keys s version key header_key secret =
 -- The reason for which a packet whose number is written from byte `start` up to `end` can't be sealed and protected in this
 -- version.
 abbrev pub PacketRefuses : (version : Version) (fixed_bit : FixedBit) (start end : ℕ) (packet : List ℕ) → SendError → Type 0
-PacketRefuses version fixed_bit start end packet TooShort = length packet < end + 16
-PacketRefuses version fixed_bit start end packet TooLong = (end + 16 ≤ length packet) × ¬ Fits end (length packet - 16 - end)
+PacketRefuses version fixed_bit start end packet TooShort = length packet < end + tag_len
+PacketRefuses version fixed_bit start end packet TooLong = (end + tag_len ≤ length packet) × ¬ Fits end (length packet - tag_len - end)
 PacketRefuses version fixed_bit start end packet NumberAtFirstByte = PacketFits end (length packet) × (start ≡ 0)
 PacketRefuses version fixed_bit start end packet NoSample =
     PacketFits end (length packet) × (0 < start) × (length packet < start + 20)
@@ -228,7 +228,7 @@ PacketRefuses version fixed_bit start end packet NoFixedBit =
 PacketRefuses version fixed_bit start end packet EmptyPayload =
     PacketFits end (length packet) × HasSample start (length packet) × IsFalse (is_retry_or_version_negotiation version packet)
     × IsFalse (is_other_version version (header_version packet))
-    × IsFalse (lacks_fixed_bit fixed_bit (header_version packet) (slice_index packet 0)) × (length packet ≡ end + 16)
+    × IsFalse (lacks_fixed_bit fixed_bit (header_version packet) (slice_index packet 0)) × (length packet ≡ end + tag_len)
 PacketRefuses version fixed_bit start end packet error = ⊥
 
 -- The reason for which a sender has no number for a packet, or none that can be written from byte `start` up to `end`.

@@ -4,7 +4,7 @@ ghost use Rattle.std.specs.Prelude.{◌≡◌, ◌≢◌, ◌+◌, ◌-◌, ◌^
 ghost use Rattle.aead_ciphers_base.specs.Aes.{aes};
 ghost use Rattle.aead_ciphers.specs.Algorithm.{key_len};
 ghost use Rattle.aead_ciphers.specs.Counting.{xored_nonce};
-ghost use Rattle.aead_ciphers.specs.Gcm.{Fits, OpenedAttached, gcm_decrypted, gcm_encrypted, gcm_sealed, gcm_tag};
+ghost use Rattle.aead_ciphers.specs.Gcm.{Fits, OpenedAttached, gcm_decrypted, gcm_encrypted, gcm_sealed, gcm_tag, tag_len};
 ghost use Rattle.aead_ciphers.specs.Packet.{OpenedPacket, PacketFits, sealed_packet};
 ghost use Rattle.quic_packets.specs.Keys.{secret_key};
 ghost use Rattle.quic_packets.specs.Packet.{EndsWithTag, IsGenuine, IsNumber};
@@ -92,9 +92,9 @@ impl PacketKey {
     /// allows, and with `NumbersEnded` if `number` is 2^62 or more. The packet is then unchanged.
     pub fn seal(&self, number: u64, packet: &mut [u8], header_len: usize) -> Result<(), SendError>
         ensures accepted { IsOk result ↔ (PacketFits header_len (length packet.old) × IsNumber number) }
-        ensures too_short { IsErrOf result SendError.TooShort ↔ (length packet.old < header_len + 16) }
-        ensures too_long { IsErrOf result SendError.TooLong ↔ ((header_len + 16 ≤ length packet.old)
-            × ¬ Fits header_len (length packet.old - 16 - header_len)) }
+        ensures too_short { IsErrOf result SendError.TooShort ↔ (length packet.old < header_len + tag_len) }
+        ensures too_long { IsErrOf result SendError.TooLong ↔ ((header_len + tag_len ≤ length packet.old)
+            × ¬ Fits header_len (length packet.old - tag_len - header_len)) }
         ensures ended { IsErrOf result SendError.NumbersEnded
             ↔ (PacketFits header_len (length packet.old) × (2 ^ 62 ≤ number)) }
         ensures sealed { OnOk result (packet.new
@@ -169,12 +169,12 @@ impl PacketKey {
         payload: &[u8],
         out: &mut [u8],
     ) -> Result<(), SendError>
-        ensures accepted { IsOk result ↔ ((length out.old ≡ length payload.now + 16)
+        ensures accepted { IsOk result ↔ ((length out.old ≡ length payload.now + tag_len)
             × Fits (length header.now) (length payload.now) × IsNumber number) }
-        ensures output { IsErrOf result SendError.OutputLength ↔ (length out.old ≢ length payload.now + 16) }
-        ensures too_long { IsErrOf result SendError.TooLong ↔ ((length out.old ≡ length payload.now + 16)
+        ensures output { IsErrOf result SendError.OutputLength ↔ (length out.old ≢ length payload.now + tag_len) }
+        ensures too_long { IsErrOf result SendError.TooLong ↔ ((length out.old ≡ length payload.now + tag_len)
             × ¬ Fits (length header.now) (length payload.now)) }
-        ensures ended { IsErrOf result SendError.NumbersEnded ↔ ((length out.old ≡ length payload.now + 16)
+        ensures ended { IsErrOf result SendError.NumbersEnded ↔ ((length out.old ≡ length payload.now + tag_len)
             × Fits (length header.now) (length payload.now) × (2 ^ 62 ≤ number)) }
         ensures sealed { OnOk result (out.new ≡ gcm_sealed (aes self.now.bytes) (xored_nonce self.now.iv number)
             header.now payload.now) }
@@ -215,10 +215,10 @@ impl PacketKey {
     ) -> Result<usize, ReceiveError>
         ensures accepted { IsOk result ↔ (PacketFits header_len (length packet.old) × IsNumber number
             × IsGenuine self.now.bytes (xored_nonce self.now.iv number) header_len packet.old) }
-        ensures too_short { IsErrOf result ReceiveError.TooShort ↔ (length packet.old < header_len + 16) }
+        ensures too_short { IsErrOf result ReceiveError.TooShort ↔ (length packet.old < header_len + tag_len) }
         ensures too_long { IsErrOf result ReceiveError.TooLong
-            ↔ ((header_len + 16 ≤ length packet.old)
-            × ¬ Fits header_len (length packet.old - 16 - header_len)) }
+            ↔ ((header_len + tag_len ≤ length packet.old)
+            × ¬ Fits header_len (length packet.old - tag_len - header_len)) }
         ensures ended { IsErrOf result ReceiveError.NumbersEnded
             ↔ (PacketFits header_len (length packet.old) × (2 ^ 62 ≤ number)) }
         ensures forged { IsErrOf result ReceiveError.Refused
@@ -226,7 +226,7 @@ impl PacketKey {
             × ¬ IsGenuine self.now.bytes (xored_nonce self.now.iv number) header_len packet.old) }
         ensures opened { OnOk result (OpenedPacket self.now.bytes (xored_nonce self.now.iv number)
             header_len packet.old true packet.new) }
-        ensures payload_len { IfOk result (λ n. n ≡ length packet.old - 16 - header_len) }
+        ensures payload_len { IfOk result (λ n. n ≡ length packet.old - tag_len - header_len) }
         ensures kept { OnErr result (packet.new ≡ packet.old) }
     {
         let payload_len = payload_len(packet, header_len).ok_or(ReceiveError::TooShort)?;
@@ -254,20 +254,20 @@ impl PacketKey {
         header: &[u8],
         payload: &mut [u8],
     ) -> Result<usize, ReceiveError>
-        ensures accepted { IsOk result ↔ ((16 ≤ length payload.old)
-            × Fits (length header.now) (length payload.old - 16) × IsNumber number
+        ensures accepted { IsOk result ↔ ((tag_len ≤ length payload.old)
+            × Fits (length header.now) (length payload.old - tag_len) × IsNumber number
             × EndsWithTag self.now.bytes (xored_nonce self.now.iv number) header.now payload.old) }
-        ensures too_short { IsErrOf result ReceiveError.TooShort ↔ (length payload.old < 16) }
-        ensures too_long { IsErrOf result ReceiveError.TooLong ↔ ((16 ≤ length payload.old)
-            × ¬ Fits (length header.now) (length payload.old - 16)) }
-        ensures ended { IsErrOf result ReceiveError.NumbersEnded ↔ ((16 ≤ length payload.old)
-            × Fits (length header.now) (length payload.old - 16) × (2 ^ 62 ≤ number)) }
-        ensures forged { IsErrOf result ReceiveError.Refused ↔ ((16 ≤ length payload.old)
-            × Fits (length header.now) (length payload.old - 16) × IsNumber number
+        ensures too_short { IsErrOf result ReceiveError.TooShort ↔ (length payload.old < tag_len) }
+        ensures too_long { IsErrOf result ReceiveError.TooLong ↔ ((tag_len ≤ length payload.old)
+            × ¬ Fits (length header.now) (length payload.old - tag_len)) }
+        ensures ended { IsErrOf result ReceiveError.NumbersEnded ↔ ((tag_len ≤ length payload.old)
+            × Fits (length header.now) (length payload.old - tag_len) × (2 ^ 62 ≤ number)) }
+        ensures forged { IsErrOf result ReceiveError.Refused ↔ ((tag_len ≤ length payload.old)
+            × Fits (length header.now) (length payload.old - tag_len) × IsNumber number
             × ¬ EndsWithTag self.now.bytes (xored_nonce self.now.iv number) header.now payload.old) }
         ensures opened { OnOk result (OpenedAttached (aes self.now.bytes) (xored_nonce self.now.iv number)
             header.now 0 payload.old true payload.new) }
-        ensures payload_len { IfOk result (λ n. n ≡ length payload.old - 16) }
+        ensures payload_len { IfOk result (λ n. n ≡ length payload.old - tag_len) }
         ensures kept { OnErr result (payload.new ≡ payload.old) }
     {
         if payload.len() < MAX_TAG_LEN {
@@ -334,15 +334,15 @@ impl PacketKey {
         sealed: &[u8],
         out: &mut [u8],
     ) -> Result<(), ReceiveError>
-        ensures accepted { IsOk result ↔ ((length sealed.now ≡ length out.old + 16)
+        ensures accepted { IsOk result ↔ ((length sealed.now ≡ length out.old + tag_len)
             × Fits (length header.now) (length out.old) × IsNumber number
             × EndsWithTag self.now.bytes (xored_nonce self.now.iv number) header.now sealed.now) }
-        ensures output { IsErrOf result ReceiveError.OutputLength ↔ (length sealed.now ≢ length out.old + 16) }
-        ensures too_long { IsErrOf result ReceiveError.TooLong ↔ ((length sealed.now ≡ length out.old + 16)
+        ensures output { IsErrOf result ReceiveError.OutputLength ↔ (length sealed.now ≢ length out.old + tag_len) }
+        ensures too_long { IsErrOf result ReceiveError.TooLong ↔ ((length sealed.now ≡ length out.old + tag_len)
             × ¬ Fits (length header.now) (length out.old)) }
-        ensures ended { IsErrOf result ReceiveError.NumbersEnded ↔ ((length sealed.now ≡ length out.old + 16)
+        ensures ended { IsErrOf result ReceiveError.NumbersEnded ↔ ((length sealed.now ≡ length out.old + tag_len)
             × Fits (length header.now) (length out.old) × (2 ^ 62 ≤ number)) }
-        ensures forged { IsErrOf result ReceiveError.Refused ↔ ((length sealed.now ≡ length out.old + 16)
+        ensures forged { IsErrOf result ReceiveError.Refused ↔ ((length sealed.now ≡ length out.old + tag_len)
             × Fits (length header.now) (length out.old) × IsNumber number
             × ¬ EndsWithTag self.now.bytes (xored_nonce self.now.iv number) header.now sealed.now) }
         ensures opened { OnOk result (out.new ≡ gcm_decrypted (aes self.now.bytes)

@@ -1,6 +1,7 @@
 //! The length of a packet's payload, and the end of the packet numbers, which sealing and opening both check.
 
 ghost use Rattle.std.specs.Prelude.{◌≡◌, ◌+◌, ◌-◌, ◌≤◌, ◌↔◌, length, IsSome, IfSome};
+ghost use Rattle.aead_ciphers.specs.Gcm.{tag_len};
 
 use aead_ciphers::aead::MAX_TAG_LEN;
 
@@ -10,8 +11,8 @@ pub(crate) const NUMBERS_END: u64 = 1 << 62;
 /// Returns the length of the payload in bytes, which lies between the header and the tag, or `None` if the packet is shorter
 /// than its header and a tag.
 pub(crate) fn payload_len(packet: &[u8], header_len: usize) -> Option<usize>
-    ensures some { IsSome result ↔ (header_len + 16 ≤ length packet.now) }
-    ensures len { IfSome result (λ n. n ≡ length packet.now - 16 - header_len) }
+    ensures some { IsSome result ↔ (header_len + tag_len ≤ length packet.now) }
+    ensures len { IfSome result (λ n. n ≡ length packet.now - tag_len - header_len) }
 {
     if packet.len() < MAX_TAG_LEN || packet.len() - MAX_TAG_LEN < header_len {
         return None;

@@ -4,6 +4,7 @@
 ghost use Rattle.std.specs.Prelude.{◌≡◌, ◌≢◌, ℕ, ◌+◌, ◌-◌, ◌<◌, ◌≤◌, ◌↔◌, false, length, List, ◌^◌, IsTrue, IsOk, IfOk, IfErr, IsErrOf, IsOkUnless, Some, None, IsSome, IfSome, OnOk, OnErr};
 ghost use Rattle.std.specs.Option.{option_copied};
 ghost use Rattle.aead_ciphers.specs.Algorithm.{key_len};
+ghost use Rattle.aead_ciphers.specs.Gcm.{tag_len};
 ghost use Rattle.quic_packets.specs.Datagram.{number_in};
 ghost use Rattle.quic_packets.specs.Header.{HasSample};
 ghost use Rattle.quic_packets.specs.Keys.{header_key, packet_key, secret_header_key, secret_key};
@@ -318,7 +319,7 @@ impl Receiver {
         ensures number { IfOk result (λ opened. IsNumber opened.1.number) }
         ensures payload { IfOk result (λ opened. (start < opened.1.payload.start)
             × (opened.1.payload.start ≤ opened.1.payload.end)
-            × (opened.1.payload.end + 16 ≡ start + length packet.old)) }
+            × (opened.1.payload.end + tag_len ≡ start + length packet.old)) }
         ensures kept { OnErr result (packet.new ≡ packet.old) }
     {
         let masked = masked_bytes(packet, number_at);

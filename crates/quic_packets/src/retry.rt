@@ -2,7 +2,7 @@
 
 ghost use Rattle.std.specs.Prelude.{◌≡◌, ◌^◌, ◌<◌, ◌≤◌, ◌↔◌, ◌++◌, [], length, IsOk, IfOk, IsOkUnless, IsErrOf, IsTrue};
 ghost use Rattle.aead_ciphers_base.specs.Aes.{aes};
-ghost use Rattle.aead_ciphers.specs.Gcm.{gcm_tag};
+ghost use Rattle.aead_ciphers.specs.Gcm.{gcm_tag, tag_len};
 ghost use Rattle.quic_packets.specs.Retry.{IsGenuineRetry, IsShortPseudoPacket, integrity_tag, retry_key, retry_nonce};
 
 use crate::datagram::MAX_ID_LEN;
@@ -80,7 +80,7 @@ pub fn retry_tag(
 /// It also returns `false` if `original_id` has more than 20 bytes, if `payload` has fewer than 16, or if the packet is so long
 /// that `retry_tag` fails.
 pub fn is_genuine_retry(version: Version, original_id: &[u8], header: &[u8], payload: &[u8]) -> bool
-    ensures { IsTrue result ↔ ((length original_id.now ≤ 20) × (16 ≤ length payload.now)
+    ensures { IsTrue result ↔ ((length original_id.now ≤ 20) × (tag_len ≤ length payload.now)
         × IsGenuineRetry version original_id.now (header.now ++ payload.now)) }
 {
     let Some(token_len) = payload.len().checked_sub(MAX_TAG_LEN) else {
