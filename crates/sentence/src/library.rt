@@ -11,7 +11,7 @@ ghost use Rattle.aead_ciphers_base.specs.Values.{aad_bytes};
 ghost use Rattle.aead_ciphers.specs.AeadKey.{AeadKey};
 ghost use Rattle.aead_ciphers.specs.Algorithm.{key_len};
 ghost use Rattle.aead_ciphers.specs.BoundState.{BoundState};
-ghost use Rattle.aead_ciphers.specs.Gcm.{Fits, Opened, OpenedAttached, gcm_decrypted, gcm_encrypted, gcm_sealed, gcm_tag};
+ghost use Rattle.aead_ciphers.specs.Gcm.{Fits, Opened, OpenedAttached, gcm_decrypted, gcm_encrypted, gcm_sealed, gcm_tag, tag_len};
 ghost use Rattle.aead_ciphers.specs.Lending.{lent_buffer};
 ghost use Rattle.aead_ciphers.specs.Runs.{JobStep, Runs};
 ghost use Rattle.aead_ciphers.specs.Steps.{OpenStep, SealStep, with_tag};
@@ -110,7 +110,7 @@ pub trait LessSafeKey<U: UnboundKey>: Drop {
             in_out.old (is_ok result) (lent_buffer result in_out.old) }
         ensures plaintext { IfOk result (λ plaintext. plaintext.now
             ≡ gcm_decrypted (aes (key self.now).bytes) nonce
-            (drop ciphertext_and_tag.start (take (length in_out.old - 16) in_out.old))) };
+            (drop ciphertext_and_tag.start (take (length in_out.old - tag_len) in_out.old))) };
 
     /// Opens in place with the tag attached, and returns the length of the plaintext.
     fn open_within_to_front(
@@ -122,7 +122,7 @@ pub trait LessSafeKey<U: UnboundKey>: Drop {
     ) -> Result<usize, Unspecified>
         ensures opened { OpenedAttached (aes (key self.now).bytes) nonce (aad_bytes aad.entry) ciphertext_and_tag.start
             in_out.old (is_ok result) in_out.new }
-        ensures count { IfOk result (λ n. n ≡ length in_out.old - 16 - ciphertext_and_tag.start) };
+        ensures count { IfOk result (λ n. n ≡ length in_out.old - tag_len - ciphertext_and_tag.start) };
 
     /// Opens the whole buffer with the tag attached, and lends the plaintext.
     fn open_in_place<'a>(
@@ -134,7 +134,7 @@ pub trait LessSafeKey<U: UnboundKey>: Drop {
         ensures opened { OpenedAttached (aes (key self.now).bytes) nonce (aad_bytes aad.entry) 0
             in_out.old (is_ok result) (lent_buffer result in_out.old) }
         ensures plaintext { IfOk result (λ plaintext. plaintext.now
-            ≡ gcm_decrypted (aes (key self.now).bytes) nonce (take (length in_out.old - 16) in_out.old)) };
+            ≡ gcm_decrypted (aes (key self.now).bytes) nonce (take (length in_out.old - tag_len) in_out.old)) };
 
     /// Opens the whole buffer with the tag attached, and returns the length of the plaintext.
     fn open_in_place_to_front(
@@ -145,7 +145,7 @@ pub trait LessSafeKey<U: UnboundKey>: Drop {
     ) -> Result<usize, Unspecified>
         ensures opened { OpenedAttached (aes (key self.now).bytes) nonce (aad_bytes aad.entry) 0
             in_out.old (is_ok result) in_out.new }
-        ensures count { IfOk result (λ n. n ≡ length in_out.old - 16) };
+        ensures count { IfOk result (λ n. n ≡ length in_out.old - tag_len) };
 
     /// Opens from one buffer to another.
     fn open_to(
@@ -218,7 +218,8 @@ pub trait OpeningKey<U: UnboundKey, N: NonceSequence>: Drop {
         ensures key_kept { (state self.new).key ≡ (state self.old).key }
         ensures step { OpenStep N.spent N.is_closed (state self.old) (state self.new) (aad_bytes aad.entry)
             ciphertext_and_tag.start in_out.old (lent_buffer result in_out.old) (is_ok result) }
-        ensures count { IfOk result (λ plaintext. length plaintext.now ≡ length in_out.old - 16 - ciphertext_and_tag.start) };
+        ensures count { IfOk result (λ plaintext.
+            length plaintext.now ≡ length in_out.old - tag_len - ciphertext_and_tag.start) };
 
     /// Opens in place with the tag attached, and returns the length of the plaintext.
     fn open_within_to_front(
@@ -230,7 +231,7 @@ pub trait OpeningKey<U: UnboundKey, N: NonceSequence>: Drop {
         ensures key_kept { (state self.new).key ≡ (state self.old).key }
         ensures step { OpenStep N.spent N.is_closed (state self.old) (state self.new) (aad_bytes aad.entry)
             ciphertext_and_tag.start in_out.old in_out.new (is_ok result) }
-        ensures count { IfOk result (λ n. n ≡ length in_out.old - 16 - ciphertext_and_tag.start) };
+        ensures count { IfOk result (λ n. n ≡ length in_out.old - tag_len - ciphertext_and_tag.start) };
 
     /// Opens the whole buffer with the tag attached, and lends the plaintext.
     fn open_in_place<'a>(
@@ -241,7 +242,7 @@ pub trait OpeningKey<U: UnboundKey, N: NonceSequence>: Drop {
         ensures key_kept { (state self.new).key ≡ (state self.old).key }
         ensures step { OpenStep N.spent N.is_closed (state self.old) (state self.new) (aad_bytes aad.entry)
             0 in_out.old (lent_buffer result in_out.old) (is_ok result) }
-        ensures count { IfOk result (λ plaintext. length plaintext.now ≡ length in_out.old - 16) };
+        ensures count { IfOk result (λ plaintext. length plaintext.now ≡ length in_out.old - tag_len) };
 
     /// Opens the whole buffer with the tag attached, and returns the length of the plaintext.
     fn open_in_place_to_front(
@@ -252,7 +253,7 @@ pub trait OpeningKey<U: UnboundKey, N: NonceSequence>: Drop {
         ensures key_kept { (state self.new).key ≡ (state self.old).key }
         ensures step { OpenStep N.spent N.is_closed (state self.old) (state self.new) (aad_bytes aad.entry)
             0 in_out.old in_out.new (is_ok result) }
-        ensures count { IfOk result (λ n. n ≡ length in_out.old - 16) };
+        ensures count { IfOk result (λ n. n ≡ length in_out.old - tag_len) };
 }
 
 /// Lists of calls of a sealing key and an opening key.

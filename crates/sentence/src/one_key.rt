@@ -5,7 +5,7 @@ ghost use Rattle.std.specs.Prelude.{◌≡◌, ◌↔◌, ◌++◌, ◌-◌, len
 ghost use Rattle.aead_ciphers_base.specs.Aes.{aes};
 ghost use Rattle.aead_ciphers_base.specs.Values.{aad_bytes};
 ghost use Rattle.aead_ciphers.specs.Algorithm.{key_len};
-ghost use Rattle.aead_ciphers.specs.Gcm.{Fits, Opened, OpenedAttached, gcm_decrypted, gcm_sealed, gcm_tag};
+ghost use Rattle.aead_ciphers.specs.Gcm.{Fits, Opened, OpenedAttached, gcm_decrypted, gcm_sealed, gcm_tag, tag_len};
 ghost use Rattle.aead_ciphers.specs.Lending.{lent_buffer};
 
 use crate::library::{LessSafeKey, UnboundKey};
@@ -98,7 +98,7 @@ pub fn open_within<'a, U: UnboundKey, K: LessSafeKey<U>>(
     ensures opened { OpenedAttached (aes (K.key key.now).bytes) nonce (aad_bytes aad.entry) start
         in_out.old (is_ok result) (lent_buffer result in_out.old) }
     ensures plaintext { IfOk result (λ plaintext. plaintext.now
-        ≡ gcm_decrypted (aes (K.key key.now).bytes) nonce (drop start (take (length in_out.old - 16) in_out.old))) }
+        ≡ gcm_decrypted (aes (K.key key.now).bytes) nonce (drop start (take (length in_out.old - tag_len) in_out.old))) }
 {
     key.open_within(nonce, aad, in_out, start..)
 }
@@ -113,7 +113,7 @@ pub fn open_within_to_front<U: UnboundKey, K: LessSafeKey<U>>(
 ) -> Result<usize, Unspecified>
     ensures opened { OpenedAttached (aes (K.key key.now).bytes) nonce (aad_bytes aad.entry) start
         in_out.old (is_ok result) in_out.new }
-    ensures count { IfOk result (λ n. n ≡ length in_out.old - 16 - start) }
+    ensures count { IfOk result (λ n. n ≡ length in_out.old - tag_len - start) }
 {
     key.open_within_to_front(nonce, aad, in_out, start..)
 }
@@ -128,7 +128,7 @@ pub fn open_in_place<'a, U: UnboundKey, K: LessSafeKey<U>>(
     ensures opened { OpenedAttached (aes (K.key key.now).bytes) nonce (aad_bytes aad.entry) 0
         in_out.old (is_ok result) (lent_buffer result in_out.old) }
     ensures plaintext { IfOk result (λ plaintext. plaintext.now
-        ≡ gcm_decrypted (aes (K.key key.now).bytes) nonce (take (length in_out.old - 16) in_out.old)) }
+        ≡ gcm_decrypted (aes (K.key key.now).bytes) nonce (take (length in_out.old - tag_len) in_out.old)) }
 {
     key.open_in_place(nonce, aad, in_out)
 }
@@ -142,7 +142,7 @@ pub fn open_in_place_to_front<U: UnboundKey, K: LessSafeKey<U>>(
 ) -> Result<usize, Unspecified>
     ensures opened { OpenedAttached (aes (K.key key.now).bytes) nonce (aad_bytes aad.entry) 0
         in_out.old (is_ok result) in_out.new }
-    ensures count { IfOk result (λ n. n ≡ length in_out.old - 16) }
+    ensures count { IfOk result (λ n. n ≡ length in_out.old - tag_len) }
 {
     key.open_in_place_to_front(nonce, aad, in_out)
 }

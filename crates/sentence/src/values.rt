@@ -3,6 +3,7 @@
 
 ghost use Rattle.std.specs.Prelude.{◌≡◌, ◌↔◌, [], length, IsOk, IfOk};
 ghost use Rattle.aead_ciphers_base.specs.Values.{aad_bytes};
+ghost use Rattle.aead_ciphers.specs.Gcm.{tag_len};
 
 use aead_ciphers::aead::{Aad, MAX_TAG_LEN, NONCE_LEN, Nonce, Tag, Unspecified};
 use aead_ciphers::session::{Job, Operation};
@@ -45,7 +46,7 @@ pub fn tag(bytes: [u8; MAX_TAG_LEN]) -> Tag
 
 /// Makes a tag of a slice. Fails if it has another length than 16.
 pub fn tag_of_slice(bytes: &[u8]) -> Result<Tag, Unspecified>
-    ensures accepted { IsOk result ↔ (length bytes.now ≡ 16) }
+    ensures accepted { IsOk result ↔ (length bytes.now ≡ tag_len) }
     ensures bytes { IfOk result (λ tag. tag ≡ bytes.now) }
 {
     Tag::try_from(bytes)
