@@ -1,5 +1,6 @@
 -- A `TrafficKey`, which protects the packets or the records of one direction of a connection, and the secrets that give it.
 use Rattle.std.specs.Prelude.{◌≡◌, ◌≢◌, ℕ, ◌⊎◌, ◌==◌, ◌≤◌, ◌+◌, ◌^◌, ◌↔◌, if◌then◌else◌, Bool, List, length, take, replicate, IsTrue, IsFalse, IsSome, IfSome}
+use Rattle.aead_ciphers.specs.Gcm.{tag_len}
 use Rattle.aead_ciphers_wide.specs.ExpandedKey.{HasZerosAfter, IsExpanded, bytes_of, zero_key}
 use Rattle.key_derivation.specs.Hash.{HashFunction}
 use Rattle.key_derivation.specs.Quic.{QuicSecretState, numbered_version, quic_iv, quic_key}
@@ -77,7 +78,7 @@ zero_traffic_key = record { key = zero_key; iv = replicate 12 0; room = replicat
 -- the payload of a record may have n bytes: it is an inner plaintext, with at least a content type, and a tag, and has at most
 -- 2^14 + 256 bytes (RFC 8446 section 5.2)
 abbrev pub IsPayloadLen : ℕ → Type 0
-IsPayloadLen n = (17 ≤ n) × (n ≤ 2 ^ 14 + 256)
+IsPayloadLen n = (1 + tag_len ≤ n) × (n ≤ 2 ^ 14 + 256)
 
 -- an inner plaintext begins with a content of `len` bytes, after which come the type with this code and zeros; if it is all
 -- zeros, it has no type, and both numbers are 0 (RFC 8446 section 5.4)

@@ -2,7 +2,7 @@
 
 ghost use Rattle.std.specs.Prelude.{◌≡◌, ◌-◌, ◌↔◌, length, IsTrue, IsFalse};
 ghost use Rattle.aead_ciphers_base.specs.Aes.{aes};
-ghost use Rattle.aead_ciphers.specs.Gcm.{Fits, gcm_encrypted, gcm_tag, OpenedAttached};
+ghost use Rattle.aead_ciphers.specs.Gcm.{Fits, gcm_encrypted, gcm_tag, tag_len, OpenedAttached};
 ghost use Rattle.deerlapse.specs.AesKey.{IsAesKeyLen};
 
 use crate::key::{deerlapse_key_open, deerlapse_key_seal, expand, width};
@@ -71,7 +71,7 @@ pub extern "C" fn deerlapse_open(
     ensures key_len { IsTrue result → IsAesKeyLen (length key.now) }
     ensures opened { IsAesKeyLen (length key.now)
         → OpenedAttached (aes key.now) nonce.now aad.now start in_out.old result in_out.new }
-    ensures count { IsTrue result → plaintext_len.new ≡ length in_out.old - 16 - start }
+    ensures count { IsTrue result → plaintext_len.new ≡ length in_out.old - tag_len - start }
     ensures refused { IsFalse result
         → (in_out.new ≡ in_out.old) × (plaintext_len.new ≡ plaintext_len.old) }
 {
@@ -91,7 +91,7 @@ pub(crate) fn open_with_width(
     ensures key_len { IsTrue result → IsAesKeyLen (length key.now) }
     ensures opened { IsAesKeyLen (length key.now)
         → OpenedAttached (aes key.now) nonce.now aad.now start in_out.old result in_out.new }
-    ensures count { IsTrue result → plaintext_len.new ≡ length in_out.old - 16 - start }
+    ensures count { IsTrue result → plaintext_len.new ≡ length in_out.old - tag_len - start }
     ensures refused { IsFalse result
         → (in_out.new ≡ in_out.old) × (plaintext_len.new ≡ plaintext_len.old) }
 {

@@ -4,7 +4,7 @@
 ghost use Rattle.std.specs.Prelude.{◌≡◌, ◌-◌, ◌↔◌, length, IsTrue, IsFalse};
 ghost use Rattle.aead_ciphers_base.specs.Aes.{aes};
 ghost use Rattle.aead_ciphers_wide.specs.ExpandedKey.{bytes_of, zero_key};
-ghost use Rattle.aead_ciphers.specs.Gcm.{Fits, gcm_encrypted, gcm_tag, Opened, OpenedAttached};
+ghost use Rattle.aead_ciphers.specs.Gcm.{Fits, gcm_encrypted, gcm_tag, tag_len, Opened, OpenedAttached};
 ghost use Rattle.aead_ciphers_wide.specs.Width.{width_bits};
 ghost use Rattle.deerlapse.specs.AesKey.{ExpandsKey, HasRounds, IsKeyOrNone};
 
@@ -120,7 +120,7 @@ pub extern "C" fn deerlapse_key_open(
     ensures opened { HasRounds key.now
         → OpenedAttached (aes (bytes_of key.now)) nonce.now aad.now start in_out.old
         result in_out.new }
-    ensures count { IsTrue result → plaintext_len.new ≡ length in_out.old - 16 - start }
+    ensures count { IsTrue result → plaintext_len.new ≡ length in_out.old - tag_len - start }
     ensures refused { IsFalse result
         → (in_out.new ≡ in_out.old) × (plaintext_len.new ≡ plaintext_len.old) }
 {

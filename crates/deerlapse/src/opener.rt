@@ -4,7 +4,7 @@
 ghost use Rattle.std.specs.Prelude.{◌≡◌, ◌+◌, ◌-◌, ◌<◌, length, IsTrue, IsFalse};
 ghost use Rattle.aead_ciphers_base.specs.Aes.{aes};
 ghost use Rattle.aead_ciphers.specs.Counting.{xored_nonce};
-ghost use Rattle.aead_ciphers.specs.Gcm.{OpenedAttached};
+ghost use Rattle.aead_ciphers.specs.Gcm.{tag_len, OpenedAttached};
 ghost use Rattle.deerlapse.specs.AesKey.{HasRounds, IsKeyOrNone};
 ghost use Rattle.deerlapse.specs.NumberedKey.{InitializesNumberedKey, key_of, next_nonce, zero_numbered_key};
 
@@ -54,7 +54,7 @@ pub extern "C" fn deerlapse_opener_open(
     ensures opened { HasRounds opener.old.key × (opener.old.next < opener.old.limit)
         → OpenedAttached (aes (key_of opener.old)) (next_nonce opener.old) aad.now start in_out.old
         result in_out.new }
-    ensures count { IsTrue result → plaintext_len.new ≡ length in_out.old - 16 - start }
+    ensures count { IsTrue result → plaintext_len.new ≡ length in_out.old - tag_len - start }
     ensures counted { IsTrue result
         → opener.new ≡ record opener.old { next = opener.old.next + 1 } }
     ensures refused { IsFalse result → (in_out.new ≡ in_out.old)
@@ -88,7 +88,7 @@ pub extern "C" fn deerlapse_opener_open_number(
     ensures opened { HasRounds opener.now.key
         → OpenedAttached (aes (key_of opener.now)) (xored_nonce opener.now.iv number) aad.now start
         in_out.old result in_out.new }
-    ensures count { IsTrue result → plaintext_len.new ≡ length in_out.old - 16 - start }
+    ensures count { IsTrue result → plaintext_len.new ≡ length in_out.old - tag_len - start }
     ensures refused { IsFalse result
         → (in_out.new ≡ in_out.old) × (plaintext_len.new ≡ plaintext_len.old) }
 {

@@ -4,7 +4,7 @@
 ghost use Rattle.std.specs.Prelude.{◌≡◌, ◌+◌, ◌↔◌, length, take, drop, IsTrue, IsFalse};
 ghost use Rattle.aead_ciphers_base.specs.Aes.{aes};
 ghost use Rattle.aead_ciphers_wide.specs.ExpandedKey.{bytes_of};
-ghost use Rattle.aead_ciphers.specs.Gcm.{Fits, gcm_decrypted, gcm_encrypted, gcm_sealed, gcm_tag};
+ghost use Rattle.aead_ciphers.specs.Gcm.{Fits, gcm_decrypted, gcm_encrypted, gcm_sealed, gcm_tag, tag_len};
 ghost use Rattle.deerlapse.specs.AesKey.{HasRounds, IsKeyOrNone};
 
 use crate::key::{deerlapse_key_seal, has_rounds};
@@ -92,7 +92,7 @@ pub extern "C" fn deerlapse_key_seal_append_tag_sized(
 ) -> bool
     requires { IsKeyOrNone key.now }
     ensures accepted { IsTrue result
-        ↔ (HasRounds key.now × (length out.old ≡ length message.now + 16)
+        ↔ (HasRounds key.now × (length out.old ≡ length message.now + tag_len)
         × Fits (length aad.now) (length message.now)) }
     ensures sealed { IsTrue result
         → out.new ≡ gcm_sealed (aes (bytes_of key.now)) nonce.now aad.now message.now }
@@ -121,7 +121,7 @@ pub extern "C" fn deerlapse_key_open_appended_tag_sized(
     requires { IsKeyOrNone key.now }
     ensures accepted { let n = length out.old in let ciphertext = take n ciphertext_and_tag.now in
         IsTrue result
-        ↔ (HasRounds key.now × (length ciphertext_and_tag.now ≡ n + 16) × Fits (length aad.now) n
+        ↔ (HasRounds key.now × (length ciphertext_and_tag.now ≡ n + tag_len) × Fits (length aad.now) n
         × (drop n ciphertext_and_tag.now ≡ gcm_tag (aes (bytes_of key.now)) nonce.now aad.now
         ciphertext)) }
     ensures plaintext { IsTrue result → out.new ≡ gcm_decrypted (aes (bytes_of key.now)) nonce.now

@@ -4,7 +4,7 @@
 ghost use Rattle.std.specs.Prelude.{◌≡◌, ◌-◌, ◌^◌, ◌<◌, ◌≤◌, ◌↔◌, length, IsTrue, IsFalse, IsSome, IfSome};
 ghost use Rattle.aead_ciphers_base.specs.Aes.{aes};
 ghost use Rattle.aead_ciphers.specs.Counting.{xored_nonce};
-ghost use Rattle.aead_ciphers.specs.Gcm.{Fits, gcm_encrypted, gcm_tag, OpenedAttached};
+ghost use Rattle.aead_ciphers.specs.Gcm.{Fits, gcm_encrypted, gcm_tag, tag_len, OpenedAttached};
 ghost use Rattle.aead_ciphers_wide.specs.ExpandedKey.{bytes_of};
 ghost use Rattle.aead_ciphers_wide.specs.Width.{width_bits};
 ghost use Rattle.key_derivation.specs.Quic.{client_initial_secret, next_quic_secret, numbered_version, server_initial_secret};
@@ -172,7 +172,7 @@ pub extern "C" fn deerlapse_quic_key_open(
     ensures opened { HasRounds key.now.key × (number < 2 ^ 62)
         → OpenedAttached (aes (bytes_of key.now.key)) (xored_nonce key.now.iv number) header.now 0
         payload.old result payload.new }
-    ensures count { IsTrue result → plaintext_len.new ≡ length payload.old - 16 }
+    ensures count { IsTrue result → plaintext_len.new ≡ length payload.old - tag_len }
     ensures refused { IsFalse result
         → (payload.new ≡ payload.old) × (plaintext_len.new ≡ plaintext_len.old) }
 {

@@ -4,7 +4,7 @@
 ghost use Rattle.std.specs.Prelude.{◌≡◌, ◌≢◌, ◌+◌, ◌-◌, ◌^◌, ◌≤◌, ◌↔◌, length, take, IsTrue, IsFalse};
 ghost use Rattle.aead_ciphers_base.specs.Aes.{aes};
 ghost use Rattle.aead_ciphers.specs.Counting.{xored_nonce};
-ghost use Rattle.aead_ciphers.specs.Gcm.{gcm_sealed, OpenedAttached};
+ghost use Rattle.aead_ciphers.specs.Gcm.{gcm_sealed, tag_len, OpenedAttached};
 ghost use Rattle.aead_ciphers_wide.specs.ExpandedKey.{bytes_of};
 ghost use Rattle.aead_ciphers_wide.specs.Width.{width_bits};
 ghost use Rattle.key_derivation.specs.Tls.{next_traffic_secret};
@@ -87,11 +87,11 @@ pub extern "C" fn deerlapse_record_key_seal(
 ) -> bool
     requires { IsKeyOrNone key.now.key }
     ensures accepted { IsTrue result ↔ (HasRounds key.now.key × (content_type ≢ 0)
-        × (content_len + 17 ≤ length payload.old) × (length payload.old ≤ 2 ^ 14 + 17)) }
+        × (content_len + 1 + tag_len ≤ length payload.old) × (length payload.old ≤ 2 ^ 14 + 1 + tag_len)) }
     ensures sealed { IsTrue result → payload.new
         ≡ gcm_sealed (aes (bytes_of key.now.key)) (xored_nonce key.now.iv number)
         (header (length payload.old)) (plaintext (take content_len payload.old) content_type
-        (length payload.old - 17 - content_len)) }
+        (length payload.old - (1 + tag_len) - content_len)) }
     ensures refused { IsFalse result → payload.new ≡ payload.old }
 {
     let len = payload.len();
@@ -132,7 +132,7 @@ pub extern "C" fn deerlapse_record_key_open(
         → OpenedAttached (aes (bytes_of key.now.key)) (xored_nonce key.now.iv number)
         (header (length payload.old)) 0 payload.old result payload.new }
     ensures content { IsTrue result → IsInner
-        (take (length payload.old - 16) payload.new) content_type.new content_len.new }
+        (take (length payload.old - tag_len) payload.new) content_type.new content_len.new }
     ensures refused { IsFalse result → (payload.new ≡ payload.old)
         × (content_type.new ≡ content_type.old) × (content_len.new ≡ content_len.old) }
 {

@@ -2,7 +2,7 @@
 //! under a key that is derived for the message.
 
 ghost use Rattle.std.specs.Prelude.{◌≡◌, ◌+◌, ◌-◌, ◌↔◌, length, take, drop, IsTrue, IsFalse, IsSome, IfSome};
-ghost use Rattle.aead_ciphers.specs.Gcm.{Fits};
+ghost use Rattle.aead_ciphers.specs.Gcm.{Fits, tag_len};
 ghost use Rattle.aead_ciphers_wide.specs.ExpandedKey.{IsExpanded as IsMessageKey, bytes_of as message_key_bytes};
 ghost use Rattle.xaes.specs.Expanded.{IsExpanded, bytes_of, zero_key};
 ghost use Rattle.xaes.specs.Xaes.{XaesOpened, XaesOpenedAttached, message_key, message_nonce, xaes_decrypted, xaes_encrypted, xaes_sealed, xaes_tag};
@@ -105,7 +105,7 @@ pub extern "C" fn deerlapse_xaes_open(
     ensures filled { IsTrue result → HasXaesRounds key.now }
     ensures opened { HasXaesRounds key.now
         → XaesOpenedAttached (bytes_of key.now) nonce.now aad.now start in_out.old result in_out.new }
-    ensures count { IsTrue result → plaintext_len.new ≡ length in_out.old - 16 - start }
+    ensures count { IsTrue result → plaintext_len.new ≡ length in_out.old - tag_len - start }
     ensures refused { IsFalse result
         → (in_out.new ≡ in_out.old) × (plaintext_len.new ≡ plaintext_len.old) }
 {
@@ -204,7 +204,7 @@ pub extern "C" fn deerlapse_xaes_seal_append_tag_sized(
 ) -> bool
     requires { IsXaesKeyOrNone key.now }
     ensures accepted { IsTrue result
-        ↔ (HasXaesRounds key.now × (length out.old ≡ length message.now + 16)
+        ↔ (HasXaesRounds key.now × (length out.old ≡ length message.now + tag_len)
         × Fits (length aad.now) (length message.now)) }
     ensures sealed { IsTrue result → out.new ≡ xaes_sealed (bytes_of key.now) nonce.now aad.now message.now }
     ensures refused { IsFalse result → out.new ≡ out.old }
@@ -229,7 +229,7 @@ pub extern "C" fn deerlapse_xaes_open_appended_tag_sized(
     requires { IsXaesKeyOrNone key.now }
     ensures accepted { let n = length out.old in let ciphertext = take n ciphertext_and_tag.now in
         IsTrue result
-        ↔ (HasXaesRounds key.now × (length ciphertext_and_tag.now ≡ n + 16) × Fits (length aad.now) n
+        ↔ (HasXaesRounds key.now × (length ciphertext_and_tag.now ≡ n + tag_len) × Fits (length aad.now) n
         × (drop n ciphertext_and_tag.now ≡ xaes_tag (bytes_of key.now) nonce.now aad.now ciphertext)) }
     ensures plaintext { IsTrue result → out.new ≡ xaes_decrypted (bytes_of key.now) nonce.now
         (take (length out.old) ciphertext_and_tag.now) }
