@@ -13,7 +13,7 @@ use Rattle.aead_ciphers.proofs.MessageLaws.{length-aes_sealed}
 use Rattle.records.specs
 use specs.Content.{IsWritable, after_content, consecutive_records, least_piece, piece, piece_room, pieces, record_count, records_of}
 use specs.Keys.{KeyState, ReaderState, WriterState}
-use specs.Record.{Inner, IsAllowed, header, inner_plaintext, record_at, type_code}
+use specs.Record.{Inner, IsAllowed, header, inner_plaintext, record_at, record_len, type_code}
 use specs.Runs.{Answer, Event, Follows, ReadStep, WriteStep, WriterRuns, as_asked, carries, ends, seals}
 use specs.declared.content_type.ContentType.{ContentType}
 use specs.declared.content_type.ContentType.TheVariants.{Alert}
@@ -23,7 +23,7 @@ use Rattle.records.proofs.RunLemmas.{reading_undoes_writing}
 -- ---- consecutive records
 
 pub length-record : (key : KeyState) (number : ℕ) (inner : Inner)
-    → length (record_at key number inner) ≡ length inner.content + inner.padding + 22
+    → length (record_at key number inner) ≡ record_len (length inner.content + inner.padding)
 length-record key number inner =
     let size = length-plaintext inner.content (type_code inner.content_type) inner.padding in
     length-append (header (length (inner_plaintext inner) + 16)) _
@@ -61,7 +61,7 @@ module _ (key : KeyState) (number : ℕ) (content_type : ContentType) (room padd
       ∙ append_assoc old (first_records i) (record_at key (number + i) (inner_at i)) ∙ ap (λ xs. old ++ xs) (sym (one_more i))
 
   pub more_sealed : (i : ℕ) (before was now : List ℕ) (filled end : ℕ) → was ≡ first_records i ++ drop filled before
-      → filled ≡ length (first_records i) → end ≡ filled + length (inner_at i).content + padding + 22
+      → filled ≡ length (first_records i) → end ≡ filled + record_len (length (inner_at i).content + padding)
       → now ≡ take filled was ++ (record_at key (number + i) (inner_at i) ++ drop end was)
       → (now ≡ first_records (i + 1) ++ drop end before) × (end ≡ length (first_records (i + 1)))
   more_sealed i before was now filled end sealed count ends_at written =

@@ -7,11 +7,11 @@ use lemmas.Nat.{be_bytes_2}
 use lemmas.Slice.{between_is}
 use Rattle.aead_ciphers_base.specs.Aes.{aes}
 use Rattle.aead_ciphers.specs.Counting.{xored_nonce}
-use Rattle.aead_ciphers.specs.Gcm.{Fits, gcm_decrypted, gcm_encrypted, gcm_sealed, gcm_tag, OpenedAttached}
+use Rattle.aead_ciphers.specs.Gcm.{Fits, gcm_decrypted, gcm_encrypted, gcm_sealed, gcm_tag, tag_len, OpenedAttached}
 use Rattle.aead_ciphers.proofs.MessageLaws.{decrypted-encrypted, length-aes_encrypted, length-aes_sealed, length-aes_tag, encrypted-decrypted, length-aes_decrypted}
 use Rattle.records.specs
 use specs.Keys.{KeyState}
-use specs.Record.{Carries, Inner, IsWhole, Seals, header, inner_plaintext, type_code}
+use specs.Record.{Carries, Inner, IsWhole, Seals, header, header_len, inner_plaintext, type_code}
 use specs.Refusals.{RefusesBytes, RefusesInner, RefusesToOpen, SealsRefused}
 use specs.Steps.{Opens, OpensMessage, overwritten}
 use specs.Stream.{BeginsProtected}
@@ -265,7 +265,7 @@ module _ (old : List ℕ) (filled at end : ℕ) (before : filled ≤ at + 5) (ra
   message_in_buffer key number new n o =
       let m : List ℕ = take n new in
       let rest : List ℕ = drop (end - filled) (drop filled old) in
-      let all : n + 21 ≡ end - at
+      let all : header_len + n + tag_len ≡ end - at
       = o.len ∙ ap length record_in_part ∙ length-take-le (end - at) (drop at old) (omega (arith, length-drop at old)) in
       let within : length part ≡ end - filled = length-take-le (end - filled) (drop filled old) (omega (arith, length-drop filled old)) in
       let size : length m ≡ n

@@ -5,7 +5,7 @@ use Rattle.std.specs.List.{concat}
 use Rattle.records.specs.Content.{after_content, piece_room, record_count, records_len, records_of}
 use Rattle.records.specs.Handling.{Handled, HandlesAll, RejectsAlert, RejectsData, RejectsMessages}
 use Rattle.records.specs.Keys.{ReaderState, WriterState, next_writer}
-use Rattle.records.specs.Record.{Inner, record_at}
+use Rattle.records.specs.Record.{Inner, record_at, record_len}
 use Rattle.records.specs.Steps.{LeavesRefused, Reads}
 use Rattle.records.specs.Stream.{BeginsProtected, RefusesProtected, Taken}
 use Rattle.records.specs.declared.connection.KeyUpdateRequest.{KeyUpdateRequest}
@@ -61,6 +61,10 @@ request_code Requested = 1
 abbrev pub key_update : KeyUpdateRequest → Inner
 key_update request = record { content_type = Handshake; content = 24 ∷ 0 ∷ 0 ∷ 1 ∷ request_code request ∷ []; padding = 0 }
 
+-- the length of the record of a KeyUpdate, a message of 5 bytes (section 4.6.3)
+abbrev pub update_len : ℕ
+update_len = record_len 5
+
 -- the bytes of the next record, which is the KeyUpdate with this request
 abbrev pub update_record : WriterState → KeyUpdateRequest → List ℕ
 update_record writer request = record_at writer.key writer.number (key_update request)
@@ -108,9 +112,9 @@ sent_for was content_type padding content =
     let records = content_records was.writer padding (length content) in
     records_before was records ++ concat (records_of (before_content was records).writer content_type padding content)
 
--- the length of what an end sends for n bytes of content, where the record of a KeyUpdate has 27 bytes
+-- the length of what an end sends for n bytes of content
 abbrev pub sent_len : ConnectionState → (padding n : ℕ) → ℕ
-sent_len was padding n = cond (updates_before was (content_records was.writer padding n)) 27 0
+sent_len was padding n = cond (updates_before was (content_records was.writer padding n)) update_len 0
     + records_len was.writer.key.size_limit padding n
 
 -- the end after it has sent n bytes of content with this padding in each record
@@ -177,14 +181,16 @@ answer_of was = cond was.owes_update (update_record was.writer NotRequested) []
 abbrev pub RefusesToUpdate : ConnectionState → (spare : ℕ) → RecordError → Type 0
 RefusesToUpdate was spare Ended = IsTrue was.is_closed
 RefusesToUpdate was spare KeyUsedUp = IsFalse was.is_closed × ¬ MayUpdate was.writer
-RefusesToUpdate was spare OutOfMemory = IsFalse was.is_closed × MayUpdate was.writer × (spare < cond was.owes_update 27 0 + 27)
+RefusesToUpdate was spare OutOfMemory =
+    IsFalse was.is_closed × MayUpdate was.writer × (spare < cond was.owes_update update_len 0 + update_len)
 RefusesToUpdate was spare error = ⊥
 
--- the error is the reason why an end doesn't append an alert
+-- the error is the reason why an end doesn't append an alert, a content of 2 bytes (section 6)
 abbrev pub RefusesToAlert : ConnectionState → (spare : ℕ) → RecordError → Type 0
 RefusesToAlert was spare Ended = IsTrue was.is_closed
 RefusesToAlert was spare KeyUsedUp = IsFalse was.is_closed × (was.writer.limit ≤ was.writer.number)
-RefusesToAlert was spare OutOfMemory = IsFalse was.is_closed × (was.writer.number < was.writer.limit) × (spare < 24)
+RefusesToAlert was spare OutOfMemory =
+    IsFalse was.is_closed × (was.writer.number < was.writer.limit) × (spare < record_len 2)
 RefusesToAlert was spare error = ⊥
 
 -- the end after it has sent an alert, after which it sends nothing (sections 6.1 and 6.2)

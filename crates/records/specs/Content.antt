@@ -3,7 +3,7 @@ use Rattle.std.specs.Prelude.{◌≡◌, ℕ, zero, ◌+◌, ◌*◌, ◌-◌, �
 use Rattle.std.specs.Int.{div_ceil}
 use Rattle.std.specs.List.{range_with_len}
 use Rattle.records.specs.Keys.{KeyState, WriterState}
-use Rattle.records.specs.Record.{Inner, IsAllowed, record_at}
+use Rattle.records.specs.Record.{Inner, IsAllowed, record_at, record_len}
 use Rattle.records.specs.Refusals.{RefusesContent}
 use Rattle.records.specs.declared.content_type.ContentType.{ContentType}
 use Rattle.records.specs.declared.content_type.ContentType.TheVariants.{Alert}
@@ -60,7 +60,7 @@ pub record IsCut (size_limit padding n : ℕ) (cut : Cut) : Type 0 where
 
 -- the length of the records of n bytes of content
 abbrev pub records_len : (size_limit padding n : ℕ) → ℕ
-records_len size_limit padding n = n + record_count (piece_room size_limit padding) n * (padding + 22)
+records_len size_limit padding n = n + record_count (piece_room size_limit padding) n * record_len padding
 
 -- a writer may write n bytes of content with this padding in each record: a record may have the smallest part of the content, and
 -- there are numbers for all its records

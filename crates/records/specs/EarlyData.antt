@@ -1,7 +1,8 @@
 -- How a server passes over early data that it has rejected (RFC 8446 section 4.2.10).
 use Rattle.std.specs.Prelude.{◌≡◌, ◌⊎◌, ℕ, ◌+◌, ◌-◌, ◌^◌, ◌<◌, ◌≤◌, Bool, true, IsFalse, IsTrue, List, length, take, drop, Option, Some, None, Result, Ok, Err}
+use Rattle.aead_ciphers.specs.Gcm.{tag_len}
 use Rattle.records.specs.Keys.{ReaderState}
-use Rattle.records.specs.Record.{IsWhole, Seals}
+use Rattle.records.specs.Record.{IsWhole, Seals, header_len}
 use Rattle.records.specs.Refusals.{RefusesBytes}
 use Rattle.records.specs.Steps.{Reads}
 use Rattle.records.specs.declared.content_type.ContentType.{ContentType}
@@ -15,17 +16,17 @@ pub record EarlyDataState : Type 0 where
 
 -- the bytes are a whole record of any cipher: at most 2^14 + 256 bytes follow its header (section 5.2)
 abbrev pub IsEncryptedRecord : List ℕ → Type 0
-IsEncryptedRecord bytes = IsWhole (2 ^ 14 + 256 - 16) bytes
+IsEncryptedRecord bytes = IsWhole (2 ^ 14 + 256 - tag_len) bytes
 
--- how many bytes of early data a record counts as: all but its header of 5 bytes, a content type and a tag of 16 bytes
+-- how many bytes of early data a record counts as: all but its header, a content type and a tag
 abbrev pub counted_len : List ℕ → ℕ
-counted_len bytes = length bytes - 5 - 17
+counted_len bytes = length bytes - header_len - (1 + tag_len)
 
 -- the error is the reason why a record is not passed over
 abbrev pub RefusesToSkip : EarlyDataState → List ℕ → RecordError → Type 0
 RefusesToSkip early bytes TooMuchEarlyData =
     IsEncryptedRecord bytes × (IsTrue early.is_over ⊎ (early.remaining < counted_len bytes))
-RefusesToSkip early bytes error = RefusesBytes (2 ^ 14 + 256 - 16) bytes error
+RefusesToSkip early bytes error = RefusesBytes (2 ^ 14 + 256 - tag_len) bytes error
 
 -- A reader passes over this record, if the bound allows it: it is a record of any cipher that isn't authentic under the next
 -- number, or that is longer than the size limit, which the client did not know when it sent early data.
@@ -34,7 +35,8 @@ pub record IsPassedOver (reader : ReaderState) (early : EarlyDataState) (bytes :
   pub is_open : IsFalse reader.is_closed
   pub has_number : reader.number < reader.limit
   pub whole : IsEncryptedRecord bytes
-  pub fails : (5 + reader.key.size_limit + 16 < length bytes) ⊎ ((message : List ℕ) → ¬ Seals reader.key reader.number bytes message)
+  pub fails : (header_len + reader.key.size_limit + tag_len < length bytes)
+      ⊎ ((message : List ℕ) → ¬ Seals reader.key reader.number bytes message)
 
 -- One read by a server that has rejected early data. `Ok None` is a record that was passed over. The first record that opens ends
 -- the early data; more than the bound is an error (section 4.6.1), and so is all else that is an error without early data.

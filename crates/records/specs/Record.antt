@@ -3,7 +3,7 @@ use Rattle.std.specs.Prelude.{◌≡◌, ◌≢◌, ℕ, ◌+◌, ◌-◌, ◌�
 use Rattle.std.specs.Int.{from_be_bytes, to_be_bytes, w16}
 use Rattle.aead_ciphers_base.specs.Aes.{aes}
 use Rattle.aead_ciphers.specs.Counting.{xored_nonce}
-use Rattle.aead_ciphers.specs.Gcm.{gcm_sealed}
+use Rattle.aead_ciphers.specs.Gcm.{gcm_sealed, tag_len}
 use Rattle.records.specs.Keys.{KeyState}
 use Rattle.records.specs.declared.content_type.ContentType.{ContentType}
 use Rattle.records.specs.declared.content_type.ContentType.TheVariants.{Alert, Handshake, ApplicationData}
@@ -39,6 +39,19 @@ pub record IsAllowed (size_limit : ℕ) (content_type : ContentType) (n padding 
   pub alert : content_type ≡ Alert → n ≡ 2
   pub fits : n + 1 + padding ≤ size_limit
 
+-- the length of a header: a type, a version of 2 bytes and a length of 2 (sections 5.1 and 5.2)
+abbrev pub header_len : ℕ
+header_len = 5
+
+-- the length of encrypted_record, if content and padding have n bytes together: these, the content type and the tag (section 5.2)
+abbrev pub encrypted_len : ℕ → ℕ
+encrypted_len n = n + 1 + tag_len
+
+-- the length of a record whose content and padding have n bytes together: the header, these, the content type and the tag
+-- (section 5.2)
+abbrev pub record_len : ℕ → ℕ
+record_len n = header_len + encrypted_len n
+
 -- application_data, and legacy_record_version 0x0303 (section 5.2)
 abbrev pub record_start : List ℕ
 record_start = 23 ∷ 3 ∷ 3 ∷ []
@@ -51,25 +64,25 @@ header n = record_start ++ to_be_bytes w16 n
 abbrev pub body_len : List ℕ → ℕ
 body_len bytes = from_be_bytes w16 (drop 3 bytes)
 
--- TLSCiphertext: the header, and the inner plaintext sealed with the header as AAD under the nonce of the record's number, 16
--- bytes longer by its tag (sections 5.2 and 5.3)
+-- TLSCiphertext: the header, which announces the length of the inner plaintext and its tag, and the inner plaintext sealed with
+-- the header as AAD under the nonce of the record's number (sections 5.2 and 5.3)
 abbrev pub record_at : KeyState → ℕ → Inner → List ℕ
 record_at key number i =
-    let aad = header (length (inner_plaintext i) + 16) in
+    let aad = header (length (inner_plaintext i) + tag_len) in
     aad ++ gcm_sealed (aes key.bytes) (xored_nonce key.iv number) aad (inner_plaintext i)
 
 -- one whole record: its header announces the length of the bytes after it
 pub record IsWhole (size_limit : ℕ) (bytes : List ℕ) : Type 0 where
-  pub start : take 5 bytes ≡ header (length bytes - 5)
-  pub shortest : 5 + 17 ≤ length bytes
-  pub longest : length bytes ≤ 5 + size_limit + 16
+  pub start : take header_len bytes ≡ header (length bytes - header_len)
+  pub shortest : header_len + 1 + tag_len ≤ length bytes
+  pub longest : length bytes ≤ header_len + size_limit + tag_len
 
 -- the header of an acceptable record: at least a content type and a tag follow it, and at most an inner plaintext of
 -- `size_limit` bytes and a tag (sections 5.2 and 5.4, RFC 8449 section 4)
 pub record IsHeader (size_limit : ℕ) (bytes : List ℕ) : Type 0 where
   pub start : take 3 bytes ≡ record_start
-  pub shortest : 17 ≤ body_len bytes
-  pub longest : body_len bytes ≤ size_limit + 16
+  pub shortest : 1 + tag_len ≤ body_len bytes
+  pub longest : body_len bytes ≤ size_limit + tag_len
 
 -- these bytes are the record with this number and this content, type and padding
 pub record Carries (key : KeyState) (number : ℕ) (bytes : List ℕ) (inner : Inner) : Type 0 where
@@ -79,4 +92,4 @@ pub record Carries (key : KeyState) (number : ℕ) (bytes : List ℕ) (inner : I
 -- the bytes are a header, and a message sealed with it as AAD under the nonce of the number
 abbrev pub Seals : KeyState → ℕ → List ℕ → List ℕ → Type 0
 Seals key number bytes message =
-    bytes ≡ take 5 bytes ++ gcm_sealed (aes key.bytes) (xored_nonce key.iv number) (take 5 bytes) message
+    bytes ≡ take header_len bytes ++ gcm_sealed (aes key.bytes) (xored_nonce key.iv number) (take header_len bytes) message

@@ -1,8 +1,9 @@
 -- The reason for each error of sealing and opening a record, and the alert that an error calls for.
 use Rattle.std.specs.Prelude.{◌≡◌, ◌≢◌, ◌⊎◌, ℕ, ◌+◌, ◌^◌, ◌<◌, ◌≤◌, List, [], length, take, replicate, Option, Some, None, IsFalse, IsNone, IsSome, IsTrue}
 use Rattle.aead_ciphers.specs.Algorithm.{key_len}
+use Rattle.aead_ciphers.specs.Gcm.{tag_len}
 use Rattle.records.specs.Keys.{HasKey, KeyState, ReaderState, WriterState}
-use Rattle.records.specs.Record.{IsAllowed, IsHeader, IsUnknown, IsWhole, Seals, body_len, plaintext, record_start, type_code}
+use Rattle.records.specs.Record.{IsAllowed, IsHeader, IsUnknown, IsWhole, Seals, body_len, header_len, plaintext, record_len, record_start, type_code}
 use Rattle.records.specs.declared.content_type.ContentType.{ContentType}
 use Rattle.records.specs.declared.content_type.ContentType.TheVariants.{Alert, ApplicationData}
 use Rattle.tls_messages.specs.declared.alert.AlertDescription.{AlertDescription}
@@ -41,7 +42,7 @@ RefusesContent size_limit content_type n padding error = ⊥
 -- the error is the reason why a record of n bytes of content and this padding isn't made in a buffer of `room` bytes
 abbrev pub RefusesToSeal : (size_limit : ℕ) → ContentType → (n padding room : ℕ) → RecordError → Type 0
 RefusesToSeal size_limit content_type n padding room NoRoom =
-    IsAllowed size_limit content_type n padding × (room < n + padding + 22)
+    IsAllowed size_limit content_type n padding × (room < record_len (n + padding))
 RefusesToSeal size_limit content_type n padding room error = RefusesContent size_limit content_type n padding error
 
 -- the error is the reason why a writer doesn't make the next record in such a buffer
@@ -54,16 +55,16 @@ RefusesToSealNext writer content_type n padding room error =
 abbrev pub RefusesToWriteNext : WriterState → ContentType → (n padding spare : ℕ) → RecordError → Type 0
 RefusesToWriteNext writer content_type n padding spare KeyUsedUp = writer.limit ≤ writer.number
 RefusesToWriteNext writer content_type n padding spare OutOfMemory =
-    (writer.number < writer.limit) × IsAllowed writer.key.size_limit content_type n padding × (spare < n + padding + 22)
+    (writer.number < writer.limit) × IsAllowed writer.key.size_limit content_type n padding × (spare < record_len (n + padding))
 RefusesToWriteNext writer content_type n padding spare error =
     (writer.number < writer.limit) × RefusesContent writer.key.size_limit content_type n padding error
 
 -- The error is the reason why the length of an encrypted record is rejected. 2^14 + 256 bytes is the limit of section 5.2 for any
--- cipher. `size_limit` bounds the inner plaintext, to which the tag adds 16 bytes.
+-- cipher. `size_limit` bounds the inner plaintext, to which the tag is added.
 abbrev pub RefusesLen : (size_limit len : ℕ) → RecordError → Type 0
 RefusesLen size_limit len EncryptedRecordTooLong = 2 ^ 14 + 256 < len
-RefusesLen size_limit len InnerPlaintextTooLong = (size_limit + 16 < len) × (len ≤ 2 ^ 14 + 256)
-RefusesLen size_limit len EncryptedRecordTooShort = len < 17
+RefusesLen size_limit len InnerPlaintextTooLong = (size_limit + tag_len < len) × (len ≤ 2 ^ 14 + 256)
+RefusesLen size_limit len EncryptedRecordTooShort = len < 1 + tag_len
 RefusesLen size_limit len error = ⊥
 
 -- the error is the reason why a header is rejected
@@ -74,8 +75,9 @@ RefusesHeader size_limit bytes error = (take 3 bytes ≡ record_start) × Refuse
 -- the error is the reason why these bytes are not one whole record
 abbrev pub RefusesBytes : (size_limit : ℕ) → List ℕ → RecordError → Type 0
 RefusesBytes size_limit bytes WrongLength =
-    (length bytes < 5) ⊎ (IsHeader size_limit (take 5 bytes) × (length bytes ≢ 5 + body_len (take 5 bytes)))
-RefusesBytes size_limit bytes error = (5 ≤ length bytes) × RefusesHeader size_limit (take 5 bytes) error
+    (length bytes < header_len)
+    ⊎ (IsHeader size_limit (take header_len bytes) × (length bytes ≢ header_len + body_len (take header_len bytes)))
+RefusesBytes size_limit bytes error = (header_len ≤ length bytes) × RefusesHeader size_limit (take header_len bytes) error
 
 -- The error is the reason why an inner plaintext is rejected: it has no content type, or one that no protected record has, or an
 -- empty handshake or alert content, or an alert content that is not one alert (sections 5, 5.1 and 5.4).

@@ -2,8 +2,9 @@
 use Rattle.std.specs.Prelude.{◌≡◌, ℕ, ◌+◌, ◌<◌, ◌≤◌, ◌||◌, is_some, List, ◌++◌, length, take, drop, Result, Ok, Err, IfErr, IfOk, IsErrOf}
 use Rattle.std.specs.Prelude.{IsFalse, IsOk, IsTrue, OnOk}
 use Rattle.std.specs.Borrow.{Bor}
+use Rattle.aead_ciphers.specs.Gcm.{tag_len}
 use Rattle.records.specs.Keys.{KeyState, ReaderState, WriterState}
-use Rattle.records.specs.Record.{Carries, Inner, IsWhole, Seals, inner_plaintext}
+use Rattle.records.specs.Record.{Carries, Inner, IsWhole, Seals, header_len, inner_plaintext, record_len}
 use Rattle.records.specs.Refusals.{RefusesToOpen, alert_of}
 use Rattle.records.specs.declared.content_type.ContentType.{ContentType}
 use Rattle.records.specs.declared.record_error.RecordError.{RecordError}
@@ -31,10 +32,10 @@ lent_content (Err error) = Err error
 abbrev pub overwritten : List ℕ → ℕ → List ℕ → List ℕ
 overwritten buffer at bytes = take at buffer ++ bytes ++ drop (at + length bytes) buffer
 
--- A record of n bytes is opened. Its inner plaintext, which is as long as the record without a header of 5 bytes and a tag of 16,
--- is in the buffer from `at` on. Every other byte is unchanged.
+-- A record of n bytes is opened. Its inner plaintext, which is as long as the record without its header and its tag, is in the
+-- buffer from `at` on. Every other byte is unchanged.
 abbrev pub LeavesInner : ℕ → ℕ → List ℕ → List ℕ → ContentType × ℕ → Type 0
-LeavesInner n at old new (content_type, len) = (padding : ℕ) × (5 + (len + 1 + padding) + 16 ≡ n)
+LeavesInner n at old new (content_type, len) = (padding : ℕ) × (record_len (len + padding) ≡ n)
     × (new ≡ overwritten old at (inner_plaintext (record {
       content_type = content_type;
       content = take len (drop at new);
@@ -57,7 +58,7 @@ LeavesRefused key number bytes at old new error = new ≡ old
 -- an authentic record is opened: its message, n bytes, is in the buffer from `at` on, and every other byte is unchanged
 pub record OpensMessage (key : KeyState) (number : ℕ) (bytes : List ℕ) (at : ℕ) (old new : List ℕ) (n : ℕ) : Type 0 where
   pub whole : IsWhole key.size_limit bytes
-  pub len : n + 21 ≡ length bytes
+  pub len : header_len + n + tag_len ≡ length bytes
   pub sealed : Seals key number bytes (take n (drop at new))
   pub left : new ≡ overwritten old at (take n (drop at new))
 

@@ -1,6 +1,6 @@
 -- The first record of a stream of bytes (RFC 8446 sections 5, 5.1 and 5.2).
 use Rattle.std.specs.Prelude.{◌≡◌, ◌≢◌, ◌⊎◌, ℕ, ◌+◌, ◌^◌, ◌<◌, ◌≤◌, List, length, take, slice_index, slice_range}
-use Rattle.records.specs.Record.{IsHeader, body_len, record_start}
+use Rattle.records.specs.Record.{IsHeader, body_len, header_len, record_start}
 use Rattle.records.specs.Refusals.{RefusesHeader}
 use Rattle.records.specs.declared.record_error.RecordError.{RecordError}
 use Rattle.records.specs.declared.record_error.RecordError.TheVariants.{PlaintextTooLong, UnexpectedRecord}
@@ -19,15 +19,17 @@ IsHeaderOf ChangeCipherSpec head = (slice_index head 0 ≡ 20) × (body_len head
 
 -- the byte of a ChangeCipherSpec is 1 (section 5)
 abbrev pub IsBodyOf : RecordKind → List ℕ → Type 0
-IsBodyOf ChangeCipherSpec bytes = slice_index bytes 5 ≡ 1
+IsBodyOf ChangeCipherSpec bytes = slice_index bytes header_len ≡ 1
 IsBodyOf kind bytes = Unit {0}
 
 -- the bytes begin with a whole record of n bytes, or with part of one, which needs at least n bytes
 abbrev pub BeginsWith : List ℕ → Begins → Type 0
 BeginsWith bytes (Record kind n) =
-    IsHeaderOf kind (take 5 bytes) × (n ≡ 5 + body_len (take 5 bytes)) × (n ≤ length bytes) × IsBodyOf kind bytes
-BeginsWith bytes (MoreNeeded n) = (length bytes < n) × (length bytes < 5 → n ≡ 5)
-    × (5 ≤ length bytes → (kind : RecordKind) × IsHeaderOf kind (take 5 bytes) × (n ≡ 5 + body_len (take 5 bytes)))
+    IsHeaderOf kind (take header_len bytes) × (n ≡ header_len + body_len (take header_len bytes)) × (n ≤ length bytes)
+    × IsBodyOf kind bytes
+BeginsWith bytes (MoreNeeded n) = (length bytes < n) × (length bytes < header_len → n ≡ header_len)
+    × (header_len ≤ length bytes → (kind : RecordKind) × IsHeaderOf kind (take header_len bytes)
+    × (n ≡ header_len + body_len (take header_len bytes)))
 
 -- the bytes begin with less than a whole record
 unfoldable pub NeedsMore : List ℕ → Type 0
@@ -54,9 +56,10 @@ RefusesStart head error = RefusesHeader (2 ^ 14 + 1) head error
 
 -- why the bytes begin with no record
 abbrev pub RefusesToClassify : List ℕ → RecordError → Type 0
-RefusesToClassify bytes UnexpectedRecord = (5 ≤ length bytes) × (RefusesStart (take 5 bytes) UnexpectedRecord
-    ⊎ (IsHeaderOf ChangeCipherSpec (take 5 bytes) × (6 ≤ length bytes) × (slice_index bytes 5 ≢ 1)))
-RefusesToClassify bytes error = (5 ≤ length bytes) × RefusesStart (take 5 bytes) error
+RefusesToClassify bytes UnexpectedRecord = (header_len ≤ length bytes) × (RefusesStart (take header_len bytes) UnexpectedRecord
+    ⊎ (IsHeaderOf ChangeCipherSpec (take header_len bytes) × (header_len + 1 ≤ length bytes)
+    × (slice_index bytes header_len ≢ 1)))
+RefusesToClassify bytes error = (header_len ≤ length bytes) × RefusesStart (take header_len bytes) error
 
 -- why the bytes begin with no protected record: a connection has no such record, or it is in plaintext
 abbrev pub RefusesProtected : List ℕ → RecordError → Type 0

@@ -5,7 +5,7 @@ ghost use Rattle.std.specs.Prelude.{◌≡◌, ◌≢◌, ◌↔◌, [], ◌+◌
 ghost use Rattle.records.specs.Alerts.{close_notify, fatal_record};
 ghost use Rattle.records.specs.Appending.{AppendOutcome, Appended};
 ghost use Rattle.records.specs.Connection.{AreSendable, EndsWith, HasRoom, IsSendable, MaySend, MayUpdate, RefusesToAlert, RefusesToSend, RefusesToSendMessages, RefusesToSendPadded, RefusesToUpdate, Step};
-ghost use Rattle.records.specs.Connection.{after_alert, after_answer, after_send, answer_of, content_left, key_update, key_updated, new_connection, received_by, sent_for, update_record, updates_before};
+ghost use Rattle.records.specs.Connection.{after_alert, after_answer, after_send, answer_of, content_left, key_update, key_updated, new_connection, received_by, sent_for, update_len, update_record, updates_before};
 ghost use Rattle.records.specs.Content.{least_piece, records_len};
 ghost use Rattle.records.specs.Keys.{IsOfSecret};
 ghost use Rattle.records.specs.Record.{IsAllowed, record_at};
@@ -459,8 +459,8 @@ impl<'b> Connection<'b> {
     /// KeyUpdate is owed afterwards.
     fn append_update(&mut self, request: KeyUpdateRequest, out: &mut Vec<u8>)
         requires may { MayUpdate self.old.writer }
-        requires room { vec_len out.old + 27 ≤ vec_capacity out.old }
-        ensures appended { Appended 27 (update_record self.old.writer request) out.old out.new }
+        requires room { vec_len out.old + update_len ≤ vec_capacity out.old }
+        ensures appended { Appended update_len (update_record self.old.writer request) out.old out.new }
         ensures updated { self.new ≡ key_updated self.old }
     {
         self.writer
@@ -474,7 +474,7 @@ impl<'b> Connection<'b> {
 
 /// Returns the length in bytes of the record of a KeyUpdate that comes before a content or another KeyUpdate, or 0 if none comes.
 fn preceding_update_len(updates: bool) -> usize
-    ensures { result ≡ cond updates 27 0 }
+    ensures { result ≡ cond updates update_len 0 }
 {
     if updates { UPDATE_LEN } else { 0 }
 }

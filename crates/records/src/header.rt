@@ -1,7 +1,8 @@
 //! The header of a protected record: it is made and read, and the length that it announces is checked (RFC 8446 section 5.2).
 
 ghost use Rattle.std.specs.Prelude.{◌≡◌, ◌+◌, ◌-◌, ◌^◌, ◌<◌, ◌≤◌, ◌↔◌, ◌++◌, length, take, IsErrOf, IsFalse, IsTrue, IsOk, IfOk, IfErr, IsSome, IfSome};
-ghost use Rattle.records.specs.Record.{header, body_len, IsHeader, IsWhole};
+ghost use Rattle.aead_ciphers.specs.Gcm.{tag_len};
+ghost use Rattle.records.specs.Record.{header, header_len, body_len, IsHeader, IsWhole};
 ghost use Rattle.records.specs.Refusals.{RefusesBytes, RefusesHeader, RefusesLen};
 ghost use Rattle.records.specs.Stream.{BeginsProtected};
 
@@ -45,8 +46,8 @@ impl Model for Header {
 impl Header {
     /// Returns the header at the front of these bytes, or `None` if they are fewer than 5.
     pub(crate) fn read(bytes: &[u8]) -> Option<Header>
-        ensures whole { IsSome result ↔ (HEADER_LEN ≤ length bytes.now) }
-        ensures header { IfSome result (λ header. header ≡ take HEADER_LEN bytes.now) }
+        ensures whole { IsSome result ↔ (header_len ≤ length bytes.now) }
+        ensures header { IfSome result (λ header. header ≡ take header_len bytes.now) }
     {
         let bytes = bytes.first_chunk::<HEADER_LEN>()?;
         let [_, _, _, high, low] = *bytes;
@@ -58,9 +59,9 @@ impl Header {
 
     /// Returns the length of the protected record that begins with this header, including the header, if the header is allowed.
     pub(crate) fn record_len(&self, size_limit: usize) -> Result<usize, RecordError>
-        requires { size_limit ≤ 2 ^ 14 + 256 - 16 }
+        requires { size_limit ≤ 2 ^ 14 + 256 - tag_len }
         ensures accepted { IsOk result ↔ IsHeader size_limit self.now }
-        ensures len { IfOk result (λ n. n ≡ HEADER_LEN + body_len self.now) }
+        ensures len { IfOk result (λ n. n ≡ header_len + body_len self.now) }
         ensures refused { IfErr result (RefusesHeader size_limit self.now) }
     {
         let [content_type, major, minor, _, _] = self.bytes;
@@ -74,8 +75,8 @@ impl Header {
 
 /// Checks the length that a header announces, that of the encrypted record after it (RFC 8446 section 5.2).
 pub(crate) fn check_encrypted_len(size_limit: usize, len: usize) -> Result<(), RecordError>
-    requires { size_limit ≤ 2 ^ 14 + 256 - 16 }
-    ensures accepted { IsOk result ↔ ((17 ≤ len) × (len ≤ size_limit + 16)) }
+    requires { size_limit ≤ 2 ^ 14 + 256 - tag_len }
+    ensures accepted { IsOk result ↔ ((1 + tag_len ≤ len) × (len ≤ size_limit + tag_len)) }
     ensures refused { IfErr result (RefusesLen size_limit len) }
 {
     if len > MAX_ENCRYPTED_LEN {
@@ -95,7 +96,7 @@ pub(crate) fn header_of_payload(
     size_limit: usize,
     payload: &[u8],
 ) -> Result<[u8; HEADER_LEN], RecordError>
-    requires { size_limit ≤ 2 ^ 14 + 256 - 16 }
+    requires { size_limit ≤ 2 ^ 14 + 256 - tag_len }
     ensures accepted { IsOk result ↔ IsWhole size_limit (header (length payload.now) ++ payload.now) }
     ensures header { IfOk result (λ made. made ≡ header (length payload.now)) }
     ensures refused { length payload.now ≤ 2 ^ 14 + 256
@@ -111,16 +112,16 @@ pub(crate) fn is_within(size_limit: usize, bytes: &[u8]) -> bool
     requires limit { size_limit ≤ 2 ^ 14 + 1 }
     requires begins { BeginsProtected bytes.now (length bytes.now) }
     ensures whole { IsTrue result → IsWhole size_limit bytes.now }
-    ensures long { IsFalse result → size_limit + 16 < body_len (take HEADER_LEN bytes.now) }
+    ensures long { IsFalse result → size_limit + tag_len < body_len (take header_len bytes.now) }
 {
     bytes.len() <= HEADER_LEN + size_limit + TAG_LEN
 }
 
 /// Returns the header of these bytes, if they are one whole record.
 pub(crate) fn header_in(size_limit: usize, bytes: &[u8]) -> Result<[u8; HEADER_LEN], RecordError>
-    requires { size_limit ≤ 2 ^ 14 + 256 - 16 }
+    requires { size_limit ≤ 2 ^ 14 + 256 - tag_len }
     ensures accepted { IsOk result ↔ IsWhole size_limit bytes.now }
-    ensures header { IfOk result (λ header. header ≡ take HEADER_LEN bytes.now) }
+    ensures header { IfOk result (λ header. header ≡ take header_len bytes.now) }
     ensures refused { IfErr result (RefusesBytes size_limit bytes.now) }
 {
     let Some(header) = Header::read(bytes) else {

@@ -4,11 +4,11 @@ ghost use Rattle.std.specs.Prelude.{◌≡◌, ℕ, List, ◌+◌, ◌-◌, ◌^
 ghost use Rattle.aead_ciphers_base.specs.Aes.{aes};
 ghost use Rattle.aead_ciphers.specs.Algorithm.{key_len};
 ghost use Rattle.aead_ciphers.specs.Counting.{xored_nonce};
-ghost use Rattle.aead_ciphers.specs.Gcm.{gcm_encrypted, gcm_tag};
+ghost use Rattle.aead_ciphers.specs.Gcm.{gcm_encrypted, gcm_tag, tag_len};
 ghost use Rattle.key_derivation.specs.Tls.{record_iv, record_key};
 ghost use Rattle.records.specs.Appending.{Appended};
 ghost use Rattle.records.specs.Keys.{HasKey, new_key, rekeyed, secret_key, suite_algorithm};
-ghost use Rattle.records.specs.Record.{header, plaintext, record_at, type_code, Carries, Inner, IsAllowed, IsWhole, Seals};
+ghost use Rattle.records.specs.Record.{encrypted_len, header, header_len, plaintext, record_at, record_len, type_code, Carries, Inner, IsAllowed, IsWhole, Seals};
 ghost use Rattle.records.specs.Refusals.{RefusesContent, RefusesToOpenTo, RefusesToSeal};
 ghost use Rattle.records.specs.Steps.{content_at, LeavesInner, LeavesRefused, Opens, OpensMessage};
 ghost use Rattle.records.specs.Stream.{BeginsProtected};
@@ -164,15 +164,15 @@ impl RecordKey {
     ) -> Result<usize, RecordError>
         ensures accepted { IsOk result
             ↔ (IsAllowed self.now.size_limit content_type content_len padding
-            × (content_len + padding + 22 ≤ length bytes.old)) }
+            × (record_len (content_len + padding) ≤ length bytes.old)) }
         ensures refused { IfErr result (RefusesToSeal
             self.now.size_limit content_type content_len padding (length bytes.old)) }
-        ensures len { IfOk result (λ n. n ≡ content_len + padding + 22) }
+        ensures len { IfOk result (λ n. n ≡ record_len (content_len + padding)) }
         ensures sealed { OnOk result (bytes.new ≡ record_at self.now number (record {
           content_type = content_type;
-          content = slice_range bytes.old HEADER_LEN (HEADER_LEN + content_len);
+          content = slice_range bytes.old header_len (header_len + content_len);
           padding = padding;
-        }) ++ drop (content_len + padding + 22) bytes.old) }
+        }) ++ drop (record_len (content_len + padding)) bytes.old) }
         ensures kept { OnErr result (bytes.new ≡ bytes.old) }
     {
         let len = HEADER_LEN + self.inner_len(content_type, content_len, padding)? + TAG_LEN;
@@ -197,15 +197,15 @@ impl RecordKey {
     ) -> Result<usize, RecordError>
         ensures accepted { IsOk result
             ↔ (IsAllowed self.now.size_limit content_type (length content.now) padding
-            × (length content.now + padding + 22 ≤ length out.old)) }
+            × (record_len (length content.now + padding) ≤ length out.old)) }
         ensures refused { IfErr result (RefusesToSeal
             self.now.size_limit content_type (length content.now) padding (length out.old)) }
-        ensures len { IfOk result (λ n. n ≡ length content.now + padding + 22) }
+        ensures len { IfOk result (λ n. n ≡ record_len (length content.now + padding)) }
         ensures sealed { OnOk result (out.new ≡ record_at self.now number (record {
           content_type = content_type;
           content = content.now;
           padding = padding;
-        }) ++ drop (length content.now + padding + 22) out.old) }
+        }) ++ drop (record_len (length content.now + padding)) out.old) }
         ensures kept { OnErr result (out.new ≡ out.old) }
     {
         let len = HEADER_LEN + self.inner_len(content_type, content.len(), padding)? + TAG_LEN;
@@ -224,12 +224,12 @@ impl RecordKey {
         content: &[u8],
         bytes: &mut [u8],
     )
-        requires room { length content.now + 22 ≤ length bytes.old }
+        requires room { record_len (length content.now) ≤ length bytes.old }
         requires fits { length bytes.old ≤ 2 ^ 15 }
         ensures { bytes.new ≡ record_at self.now number (record {
           content_type = content_type;
           content = content.now;
-          padding = length bytes.old - 22 - length content.now;
+          padding = length bytes.old - record_len (length content.now);
         }) }
     {
         bytes[HEADER_LEN..HEADER_LEN + content.len()].copy_from_slice(content);
@@ -246,8 +246,8 @@ impl RecordKey {
         out: &mut Vec<u8>,
     )
         requires fits { length content.now + padding ≤ 2 ^ 14 }
-        requires room { vec_len out.old + (length content.now + padding + 22) ≤ vec_capacity out.old }
-        ensures { Appended (length content.now + padding + 22) (record_at self.now number
+        requires room { vec_len out.old + record_len (length content.now + padding) ≤ vec_capacity out.old }
+        ensures { Appended (record_len (length content.now + padding)) (record_at self.now number
             (record { content_type = content_type; content = content.now; padding = padding })) out.old out.new }
     {
         let header = header_of(content.len() + padding + 1 + TAG_LEN);
@@ -295,16 +295,16 @@ impl RecordKey {
     ) -> Result<usize, RecordError>
         ensures accepted { IsOk result
             ↔ (IsAllowed self.now.size_limit content_type content_len padding
-            × (content_len + padding + 17 ≤ length payload.old)) }
+            × (encrypted_len (content_len + padding) ≤ length payload.old)) }
         ensures refused { IfErr result (RefusesToSeal
-            self.now.size_limit content_type content_len padding (length payload.old + 5)) }
-        ensures len { IfOk result (λ n. n ≡ content_len + padding + 17) }
-        ensures sealed { OnOk result (header (content_len + padding + 17) ++ payload.new
+            self.now.size_limit content_type content_len padding (header_len + length payload.old)) }
+        ensures len { IfOk result (λ n. n ≡ encrypted_len (content_len + padding)) }
+        ensures sealed { OnOk result (header (encrypted_len (content_len + padding)) ++ payload.new
             ≡ record_at self.now number (record {
               content_type = content_type;
               content = take content_len payload.old;
               padding = padding;
-            }) ++ drop (content_len + padding + 17) payload.old) }
+            }) ++ drop (encrypted_len (content_len + padding)) payload.old) }
         ensures kept { OnErr result (payload.new ≡ payload.old) }
     {
         let len = self.inner_len(content_type, content_len, padding)? + TAG_LEN;
@@ -330,12 +330,12 @@ impl RecordKey {
         bytes: &mut [u8],
         content_len: usize,
     )
-        requires room { content_len + 22 ≤ length bytes.old }
+        requires room { record_len content_len ≤ length bytes.old }
         requires fits { length bytes.old ≤ 2 ^ 15 }
         ensures { bytes.new ≡ record_at self.now number (record {
           content_type = content_type;
-          content = take content_len (drop HEADER_LEN bytes.old);
-          padding = length bytes.old - 22 - content_len;
+          content = take content_len (drop header_len bytes.old);
+          padding = length bytes.old - record_len content_len;
         }) }
     {
         let (head, body) = bytes.split_at_mut(HEADER_LEN);
@@ -354,12 +354,12 @@ impl RecordKey {
         content_len: usize,
     )
         requires aad { aad.now ≡ header (length body.old) }
-        requires room { content_len + 17 ≤ length body.old }
+        requires room { encrypted_len content_len ≤ length body.old }
         requires fits { length body.old ≤ 2 ^ 15 }
         ensures { header (length body.old) ++ body.new ≡ record_at self.now number (record {
           content_type = content_type;
           content = take content_len body.old;
-          padding = length body.old - 17 - content_len;
+          padding = length body.old - encrypted_len content_len;
         }) }
     {
         let message_len = body.len() - TAG_LEN;
@@ -396,12 +396,12 @@ impl RecordKey {
         number: u64,
         bytes: &mut [u8],
     ) -> Result<(ContentType, usize), RecordError>
-        ensures opens { Opens self.now number bytes.old (content_at HEADER_LEN bytes.new result) }
-        ensures within { IfOk result (λ read. read.1 + 22 ≤ length bytes.old) }
+        ensures opens { Opens self.now number bytes.old (content_at header_len bytes.new result) }
+        ensures within { IfOk result (λ read. record_len read.1 ≤ length bytes.old) }
         ensures put { IfOk result
-            (LeavesInner (length bytes.old) HEADER_LEN bytes.old bytes.new) }
+            (LeavesInner (length bytes.old) header_len bytes.old bytes.new) }
         ensures kept { IfErr result
-            (LeavesRefused self.now number bytes.old HEADER_LEN bytes.old bytes.new) }
+            (LeavesRefused self.now number bytes.old header_len bytes.old bytes.new) }
     {
         let end = bytes.len();
         self.open_within(number, bytes, HEADER_LEN, 0, end)
@@ -424,9 +424,9 @@ impl RecordKey {
             (content_at 0 payload.new result) }
         ensures too_long { IsErrOf result RecordError.EncryptedRecordTooLong
             ↔ (2 ^ 14 + 256 < length payload.old) }
-        ensures within { IfOk result (λ read. read.1 + 17 ≤ length payload.old) }
+        ensures within { IfOk result (λ read. encrypted_len read.1 ≤ length payload.old) }
         ensures put { IfOk result
-            (LeavesInner (length payload.old + 5) 0 payload.old payload.new) }
+            (LeavesInner (header_len + length payload.old) 0 payload.old payload.new) }
         ensures kept { IfErr result (LeavesRefused self.now number
             (header (length payload.old) ++ payload.old) 0 payload.old payload.new) }
     {
@@ -451,11 +451,11 @@ impl RecordKey {
         bytes: &[u8],
         out: &mut [u8],
     ) -> Result<(ContentType, usize), RecordError>
-        ensures opens { length bytes.now ≤ length out.old + 21
+        ensures opens { length bytes.now ≤ header_len + length out.old + tag_len
             → Opens self.now number bytes.now (content_at 0 out.new result) }
-        ensures no_room { length out.old + 21 < length bytes.now → (error : RecordError)
+        ensures no_room { header_len + length out.old + tag_len < length bytes.now → (error : RecordError)
             × IsErrOf result error × RefusesToOpenTo self.now.size_limit bytes.now error }
-        ensures within { IfOk result (λ read. read.1 + 22 ≤ length bytes.now) }
+        ensures within { IfOk result (λ read. record_len read.1 ≤ length bytes.now) }
         ensures put { IfOk result (LeavesInner (length bytes.now) 0 out.old out.new) }
         ensures kept { IfErr result
             (LeavesRefused self.now number bytes.now 0 out.old out.new) }
@@ -481,11 +481,11 @@ impl RecordKey {
         out: &mut [u8],
     ) -> Result<usize, RecordError>
         requires whole { IsWhole self.now.size_limit bytes.now }
-        requires header { header.now ≡ take HEADER_LEN bytes.now }
-        requires room { length bytes.now ≤ length out.old + 21 }
+        requires header { header.now ≡ take header_len bytes.now }
+        requires room { length bytes.now ≤ header_len + length out.old + tag_len }
         ensures opened { IfOk result
             (OpensMessage self.now number bytes.now 0 out.old out.new) }
-        ensures len { IfOk result (λ n. n + 21 ≡ length bytes.now) }
+        ensures len { IfOk result (λ n. header_len + n + tag_len ≡ length bytes.now) }
         ensures refused { IsOkUnless result RecordError.Refused }
         ensures none { OnErr result ((message : List ℕ) → ¬ Seals self.now number bytes.now message) }
         ensures kept { OnErr result (out.new ≡ out.old) }
@@ -512,11 +512,11 @@ impl RecordKey {
         at: usize,
         end: usize,
     ) -> Result<(ContentType, usize), RecordError>
-        requires before { filled ≤ at + 5 }
+        requires before { filled ≤ at + header_len }
         requires range { (at ≤ end) × (end ≤ length bytes.old) }
         ensures opens { Opens self.now number (slice_range bytes.old at end)
             (content_at filled bytes.new result) }
-        ensures within { IfOk result (λ read. filled + read.1 + 17 ≤ end) }
+        ensures within { IfOk result (λ read. filled + encrypted_len read.1 ≤ end) }
         ensures put { IfOk result (LeavesInner (end - at) filled bytes.old bytes.new) }
         ensures kept { IfErr result (LeavesRefused
             self.now number (slice_range bytes.old at end) filled bytes.old bytes.new) }
@@ -532,10 +532,10 @@ impl RecordKey {
         header: &Header,
         bytes: &mut [u8],
     ) -> Result<(ContentType, usize), RecordError>
-        requires header { header.now ≡ take HEADER_LEN bytes.old }
+        requires header { header.now ≡ take header_len bytes.old }
         requires begins { BeginsProtected bytes.old (length bytes.old) }
         ensures opens { Opens self.now number bytes.old (content_at 0 bytes.new result) }
-        ensures within { IfOk result (λ read. read.1 + 17 ≤ length bytes.old) }
+        ensures within { IfOk result (λ read. encrypted_len read.1 ≤ length bytes.old) }
         ensures kept { IfErr result (LeavesRefused self.now number bytes.old 0 bytes.old bytes.new) }
     {
         if !is_within(self.size_limit, bytes) {
@@ -556,13 +556,13 @@ impl RecordKey {
         at: usize,
         end: usize,
     ) -> Result<(ContentType, usize), RecordError>
-        requires before { filled ≤ at + 5 }
+        requires before { filled ≤ at + header_len }
         requires range { (at ≤ end) × (end ≤ length bytes.old) }
         requires whole { IsWhole self.now.size_limit (slice_range bytes.old at end) }
-        requires header { header.now ≡ take HEADER_LEN (slice_range bytes.old at end) }
+        requires header { header.now ≡ take header_len (slice_range bytes.old at end) }
         ensures opens { Opens self.now number (slice_range bytes.old at end)
             (content_at filled bytes.new result) }
-        ensures within { IfOk result (λ read. filled + read.1 + 17 ≤ end) }
+        ensures within { IfOk result (λ read. filled + encrypted_len read.1 ≤ end) }
         ensures put { IfOk result (LeavesInner (end - at) filled bytes.old bytes.new) }
         ensures kept { IfErr result (LeavesRefused
             self.now number (slice_range bytes.old at end) filled bytes.old bytes.new) }
@@ -587,13 +587,13 @@ impl RecordKey {
         at: usize,
         end: usize,
     ) -> Result<usize, RecordError>
-        requires before { filled ≤ at + 5 }
+        requires before { filled ≤ at + header_len }
         requires range { (at ≤ end) × (end ≤ length bytes.old) }
         requires whole { IsWhole self.now.size_limit (slice_range bytes.old at end) }
-        requires header { header.now ≡ take HEADER_LEN (slice_range bytes.old at end) }
+        requires header { header.now ≡ take header_len (slice_range bytes.old at end) }
         ensures opened { IfOk result (OpensMessage
             self.now number (slice_range bytes.old at end) filled bytes.old bytes.new) }
-        ensures within { IfOk result (λ n. filled + n + 16 ≤ end) }
+        ensures within { IfOk result (λ n. filled + n + tag_len ≤ end) }
         ensures refused { IsOkUnless result RecordError.Refused }
         ensures none { OnErr result
             ((message : List ℕ) → ¬ Seals self.now number (slice_range bytes.old at end) message) }
@@ -620,7 +620,7 @@ impl RecordKey {
         requires whole { IsWhole self.now.size_limit (header.now ++ drop start bytes.old) }
         ensures opened { IfOk result (OpensMessage
             self.now number (header.now ++ drop start bytes.old) 0 bytes.old bytes.new) }
-        ensures within { IfOk result (λ n. start + n + 16 ≡ length bytes.old) }
+        ensures within { IfOk result (λ n. start + n + tag_len ≡ length bytes.old) }
         ensures refused { IsOkUnless result RecordError.Refused }
         ensures none { OnErr result ((message : List ℕ)
             → ¬ Seals self.now number (header.now ++ drop start bytes.old) message) }
@@ -643,9 +643,9 @@ fn append_unsealed(
     padding: usize,
     out: &mut Vec<u8>,
 ) -> Result<(), AllocError>
-    requires room { vec_len out.old + (length content.now + padding + 6) ≤ vec_capacity out.old }
+    requires room { vec_len out.old + (header_len + length content.now + 1 + padding) ≤ vec_capacity out.old }
     ensures ok { IsOk result }
-    ensures appended { Appended (length content.now + padding + 6)
+    ensures appended { Appended (header_len + length content.now + 1 + padding)
         (header.now ++ plaintext content.now (type_code content_type) padding) out.old out.new }
 {
     out.extend_from_slice(header)?;

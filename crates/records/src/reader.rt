@@ -3,13 +3,13 @@
 ghost use Rattle.std.specs.Prelude.{◌≡◌, ◌+◌, ◌-◌, ◌^◌, ◌<◌, ◌≤◌, ◌↔◌, ℕ, List, Err, min, length, take, slice_range, None, Some, IsTrue, IsFalse, IsSome, IsNone, IfNone, IfSome, IsOk, IfOk, IsOkUnless, IsErrOf, IfErr, OnOk, OnErr, false};
 ghost use Rattle.aead_ciphers.specs.Algorithm.{key_len};
 ghost use Rattle.records.specs.Keys.{IsKeyOf, IsOfSecret, new_key, next_reader, reader_of, rekeyed};
+ghost use Rattle.records.specs.Record.{encrypted_len, header_len};
 ghost use Rattle.records.specs.Refusals.{RefusesReadKey};
 ghost use Rattle.records.specs.Steps.{content_at, lent_content, after_error, LeavesInner, LeavesRefused, Reads};
 ghost use Rattle.records.specs.Stream.{BeginsProtected};
 
 mod early_data;
 
-use crate::HEADER_LEN;
 use crate::content_type::ContentType;
 use crate::header::Header;
 use crate::key::RecordKey;
@@ -251,11 +251,11 @@ impl Reader {
         at: usize,
         end: usize,
     ) -> Result<(ContentType, usize), RecordError>
-        requires before { filled ≤ at + 5 }
+        requires before { filled ≤ at + header_len }
         requires range { (at ≤ end) × (end ≤ length bytes.old) }
         ensures reads { Reads self.old self.new (slice_range bytes.old at end)
             (content_at filled bytes.new result) }
-        ensures within { IfOk result (λ read. filled + read.1 + 17 ≤ end) }
+        ensures within { IfOk result (λ read. filled + encrypted_len read.1 ≤ end) }
         ensures put { IfOk result (LeavesInner (end - at) filled bytes.old bytes.new) }
         ensures kept { IfErr result (LeavesRefused self.old.key self.old.number
             (slice_range bytes.old at end) filled bytes.old bytes.new) }
@@ -275,10 +275,10 @@ impl Reader {
         header: &Header,
         bytes: &mut [u8],
     ) -> Result<(ContentType, usize), RecordError>
-        requires header { header.now ≡ take HEADER_LEN bytes.old }
+        requires header { header.now ≡ take header_len bytes.old }
         requires begins { BeginsProtected bytes.old (length bytes.old) }
         ensures reads { Reads self.old self.new bytes.old (content_at 0 bytes.new result) }
-        ensures within { IfOk result (λ read. read.1 + 17 ≤ length bytes.old) }
+        ensures within { IfOk result (λ read. encrypted_len read.1 ≤ length bytes.old) }
         ensures kept { IfErr result
             (LeavesRefused self.old.key self.old.number bytes.old 0 bytes.old bytes.new) }
     {

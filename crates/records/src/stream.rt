@@ -1,7 +1,7 @@
 //! The record that a stream of bytes begins with, found by its header: its kind and its length (RFC 8446 section 5).
 
 ghost use Rattle.std.specs.Prelude.{◌≡◌, ◌+◌, ◌≤◌, length, take, IfOk, IfErr};
-ghost use Rattle.records.specs.Record.{body_len};
+ghost use Rattle.records.specs.Record.{body_len, header_len};
 ghost use Rattle.records.specs.Stream.{BeginsWith, IsHeaderOf, RefusesStart, RefusesToClassify};
 
 use crate::header::{APPLICATION_DATA, Header};
@@ -66,8 +66,8 @@ pub fn classify(bytes: &[u8]) -> Result<Begins, RecordError>
 
 /// Returns what a stream begins with, given its header, which was read.
 pub(crate) fn classify_headed(header: &Header, bytes: &[u8]) -> Result<Begins, RecordError>
-    requires whole { HEADER_LEN ≤ length bytes.now }
-    requires header { header.now ≡ take HEADER_LEN bytes.now }
+    requires whole { header_len ≤ length bytes.now }
+    requires header { header.now ≡ take header_len bytes.now }
     ensures begins { IfOk result (BeginsWith bytes.now) }
     ensures refused { IfErr result (RefusesToClassify bytes.now) }
 {
@@ -84,7 +84,7 @@ pub(crate) fn classify_headed(header: &Header, bytes: &[u8]) -> Result<Begins, R
 /// Returns the kind of the record that begins with this header, and its length, including the header.
 fn kind_of(header: &Header) -> Result<(RecordKind, usize), RecordError>
     ensures kind { IfOk result (λ kind. IsHeaderOf kind.0 header.now) }
-    ensures len { IfOk result (λ kind. kind.1 ≡ 5 + body_len header.now) }
+    ensures len { IfOk result (λ kind. kind.1 ≡ header_len + body_len header.now) }
     ensures refused { IfErr result (RefusesStart header.now) }
 {
     let first = header.bytes[0];

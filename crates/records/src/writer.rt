@@ -4,7 +4,7 @@ ghost use Rattle.std.specs.Prelude.{◌≡◌, ◌+◌, ◌-◌, ◌^◌, ◌<�
 ghost use Rattle.aead_ciphers.specs.Algorithm.{key_len};
 ghost use Rattle.records.specs.Appending.{AppendOutcome, Appended};
 ghost use Rattle.records.specs.Keys.{HasKey, IsKeyOf, IsOfSecret, new_key, next_writer, rekeyed, writer_of};
-ghost use Rattle.records.specs.Record.{IsAllowed, record_at};
+ghost use Rattle.records.specs.Record.{IsAllowed, header_len, record_at, record_len};
 ghost use Rattle.records.specs.Refusals.{RefusesToSealNext, RefusesToWriteNext, RefusesWriteKey};
 
 mod content;
@@ -216,15 +216,15 @@ impl Writer {
     ) -> Result<usize, RecordError>
         ensures accepted { IsOk result ↔ ((self.old.number < self.old.limit)
             × IsAllowed self.old.key.size_limit content_type content_len padding
-            × (content_len + padding + 22 ≤ length bytes.old)) }
+            × (record_len (content_len + padding) ≤ length bytes.old)) }
         ensures refused { IfErr result
             (RefusesToSealNext self.old content_type content_len padding (length bytes.old)) }
-        ensures len { IfOk result (λ n. n ≡ content_len + padding + 22) }
+        ensures len { IfOk result (λ n. n ≡ record_len (content_len + padding)) }
         ensures sealed { OnOk result (bytes.new ≡ record_at self.old.key self.old.number (record {
           content_type = content_type;
-          content = slice_range bytes.old HEADER_LEN (HEADER_LEN + content_len);
+          content = slice_range bytes.old header_len (header_len + content_len);
           padding = padding;
-        }) ++ drop (content_len + padding + 22) bytes.old) }
+        }) ++ drop (record_len (content_len + padding)) bytes.old) }
         ensures counted { OnOk result
             (self.new ≡ record self.old { number = self.old.number + 1 }) }
         ensures kept { OnErr result (bytes.new ≡ bytes.old) }
@@ -278,8 +278,8 @@ impl Writer {
     )
         requires numbers { self.old.number < self.old.limit }
         requires fits { length content.now + padding ≤ 2 ^ 14 }
-        requires room { vec_len out.old + (length content.now + padding + 22) ≤ vec_capacity out.old }
-        ensures appended { Appended (length content.now + padding + 22) (record_at self.old.key self.old.number
+        requires room { vec_len out.old + record_len (length content.now + padding) ≤ vec_capacity out.old }
+        ensures appended { Appended (record_len (length content.now + padding)) (record_at self.old.key self.old.number
             (record { content_type = content_type; content = content.now; padding = padding })) out.old out.new }
         ensures counted { self.new ≡ record self.old { number = self.old.number + 1 } }
     {

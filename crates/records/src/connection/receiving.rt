@@ -4,10 +4,10 @@ ghost use Rattle.std.specs.Prelude.{◌≡◌, ◌≢◌, ◌+◌, ◌||◌, ◌
 ghost use Rattle.records.specs.Connection.{Brings, Fails, FailsToBring, LeavesRecord, Rejects, Step, handling, receiving};
 ghost use Rattle.records.specs.Handling.{HandlesAll, MayHandle, RefusesToHandle, RejectsMessages, after_message};
 ghost use Rattle.records.specs.Keys.{IsOfSecret, next_reader};
+ghost use Rattle.records.specs.Record.{header_len};
 ghost use Rattle.records.specs.Stream.{BeginsProtected, NeedsMore, RefusesProtected, Taken};
 
 use super::receive_error::ReceiveError;
-use crate::HEADER_LEN;
 use crate::content_type::ContentType;
 use crate::header::Header;
 use crate::reader::Reader;
@@ -214,7 +214,7 @@ fn receive_record(
 ) -> Result<(), ReceiveError>
     requires is_of { IsOfSecret incoming.old.reader.secret incoming.old.reader.key }
     requires going { IsFalse incoming.old.is_ended × IsFalse messages.old.is_closed }
-    requires header { header.now ≡ take HEADER_LEN bytes.old }
+    requires header { header.now ≡ take header_len bytes.old }
     requires begins { BeginsProtected bytes.old (length bytes.old) }
     ensures step { OnOk result (Step (receiving incoming.old messages.old received.old) bytes.old
         (receiving incoming.new messages.new received.new)) }
@@ -250,7 +250,7 @@ struct FirstRecord {
 /// Returns the protected record at the front of these bytes, or `None` if it is not whole.
 #[tactic(auto, unfolding(crate::specs::Stream::NeedsMore))]
 fn first_record(bytes: &[u8]) -> Result<Option<FirstRecord>, RecordError>
-    ensures header { IfOk result (λ found. IfSome found (λ first. first.header ≡ take HEADER_LEN bytes.now)) }
+    ensures header { IfOk result (λ found. IfSome found (λ first. first.header ≡ take header_len bytes.now)) }
     ensures len { IfOk result (λ found. IfSome found (λ first. (0 < first.len) × (first.len ≤ length bytes.now)
         × BeginsProtected bytes.now first.len)) }
     ensures more { IfOk result (λ found. found ≡ None → NeedsMore bytes.now) }

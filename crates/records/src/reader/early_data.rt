@@ -2,6 +2,7 @@
 
 ghost use Rattle.std.specs.Prelude.{◌≡◌, ◌+◌, ◌-◌, ◌≤◌, ◌↔◌, length, slice_range, IsFalse, IsOk, IfOk, IfErr, IfNone, IfSome, OnOk, OnErr, false};
 ghost use Rattle.records.specs.EarlyData.{IsEncryptedRecord, ReadsPast, RefusesToSkip, counted_len, past_at};
+ghost use Rattle.records.specs.Record.{encrypted_len, header_len};
 ghost use Rattle.records.specs.Steps.{LeavesInner, LeavesRefused};
 
 use super::Reader;
@@ -96,11 +97,11 @@ impl Reader {
         at: usize,
         end: usize,
     ) -> Result<Option<(ContentType, usize)>, RecordError>
-        requires before { filled ≤ at + 5 }
+        requires before { filled ≤ at + header_len }
         requires range { (at ≤ end) × (end ≤ length bytes.old) }
         ensures reads { ReadsPast self.old self.new early_data.old early_data.new
             (slice_range bytes.old at end) (past_at filled bytes.new result) }
-        ensures within { IfOk result (λ found. IfSome found (λ read. filled + read.1 + 17 ≤ end)) }
+        ensures within { IfOk result (λ found. IfSome found (λ read. filled + encrypted_len read.1 ≤ end)) }
         ensures put { IfOk result (λ found. IfSome found
             (LeavesInner (end - at) filled bytes.old bytes.new)) }
         ensures passed { IfOk result (λ found. IfNone found (bytes.new ≡ bytes.old)) }

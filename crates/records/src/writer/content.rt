@@ -4,7 +4,7 @@ ghost use Rattle.std.specs.Prelude.{◌≡◌, ◌+◌, min, ◌*◌, ◌^◌, �
 ghost use Rattle.std.specs.List.{concat};
 ghost use Rattle.records.specs.Appending.{AppendOutcome};
 ghost use Rattle.records.specs.Content.{IsCut, IsWritable, RefusesToSealAll, RefusesToWrite, RefusesToWriteAll, after_content, consecutive_records, least_piece, pieces, record_count, records_len, records_of};
-ghost use Rattle.records.specs.Record.{IsAllowed, record_at};
+ghost use Rattle.records.specs.Record.{IsAllowed, record_at, record_len};
 
 use super::Writer;
 use crate::RECORD_OVERHEAD;
@@ -32,8 +32,8 @@ impl Cut {
     /// Returns the length of `before` bytes and the records of `len` bytes after them, or `None` if it doesn't fit in a `usize`.
     pub(crate) fn records_len(self, before: usize, len: usize, padding: usize) -> Option<usize>
         requires { padding ≤ 2 ^ 14 }
-        ensures some { IfSome result (λ n. n ≡ before + (len + self.count * (padding + 22))) }
-        ensures none { IfNone result (2 ^ 64 ≤ before + (len + self.count * (padding + 22))) }
+        ensures some { IfSome result (λ n. n ≡ before + (len + self.count * record_len padding)) }
+        ensures none { IfNone result (2 ^ 64 ≤ before + (len + self.count * record_len padding)) }
     {
         let overhead = self.count.checked_mul(padding + RECORD_OVERHEAD)?;
         overhead.checked_add(len)?.checked_add(before)
@@ -232,8 +232,8 @@ fn seal_piece(
     filled: usize,
 ) -> usize
     requires fits { length piece.now + padding ≤ 2 ^ 14 }
-    requires room { filled + length piece.now + padding + 22 ≤ length out.old }
-    ensures end { result ≡ filled + length piece.now + padding + 22 }
+    requires room { filled + record_len (length piece.now + padding) ≤ length out.old }
+    ensures end { result ≡ filled + record_len (length piece.now + padding) }
     ensures sealed { out.new ≡ take filled out.old ++ (record_at key.now number (record {
       content_type = content_type;
       content = piece.now;

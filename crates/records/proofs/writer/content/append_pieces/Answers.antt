@@ -1,4 +1,5 @@
-use Rattle.std.proofs.Common.{◌+◌, length, ap, ◌∙◌, arith}
+use Rattle.std.proofs.Common.{length, ap, ◌∙◌, arith}
+use Rattle.records.specs.Record.{record_len}
 use Rattle.records.proofs.ContentLemmas.{length-piece, more_appended, one_longer}
 use Rattle.records.proofs.writer.content.append_pieces.Goals as goal
 
@@ -14,9 +15,10 @@ loop-i-preserved c =
     let i = c.loop-i.i in
     let before = c.loop-i.invariant in
     let size = ap length c.piece-piece.ensures ∙ length-piece room content i in
+    let longer = one_longer room (length content) (record_len c.args.padding) i _ size in
     record {
       appended = more_appended c.args.key.now c.args.first c.args.content_type room c.args.padding content i c.args.out.now.items
           c.loop-i.out.items c.append.new.out.items before.appended (rw c.piece-piece.ensures at c.append.ensures.items);
-      len = omega (arith, c.append.ensures.len, before.len, one_longer room (length content) (c.args.padding + 22) i _ size);
+      len = omega (arith, c.append.ensures.len, before.len, longer);
       capacity = omega (arith, before.capacity, c.append.ensures.capacity);
     }

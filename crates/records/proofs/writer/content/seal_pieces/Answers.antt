@@ -1,4 +1,5 @@
-use Rattle.std.proofs.Common.{◌+◌, ap, length, ◌∙◌, arith}
+use Rattle.std.proofs.Common.{ap, length, ◌∙◌, arith}
+use Rattle.records.specs.Record.{record_len}
 use Rattle.records.proofs.ContentLemmas.{length-piece, more_sealed, one_longer}
 use Rattle.records.proofs.writer.content.seal_pieces.Goals as goal
 
@@ -17,8 +18,9 @@ loop-i-preserved c =
     let more = more_sealed c.args.key.now c.args.first c.args.content_type room c.args.padding content i c.args.out.now c.loop-i.out
     c.seal_piece-filled.new.out c.loop-i.filled c.seal_piece-filled.result before.sealed before.filled
     (rw c.piece-piece.ensures at c.seal_piece-filled.ensures.end) (rw c.piece-piece.ensures at c.seal_piece-filled.ensures.sealed) in
+    let longer = one_longer room (length content) (record_len c.args.padding) i _ size in
     record {
       sealed = more.0;
       filled = more.1;
-      len = omega (arith, c.seal_piece-filled.ensures.end, before.len, one_longer room (length content) (c.args.padding + 22) i _ size);
+      len = omega (arith, c.seal_piece-filled.ensures.end, before.len, longer);
     }
