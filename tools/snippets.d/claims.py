@@ -6,21 +6,15 @@ import re
 import tables
 from repository import TOP
 
+# The crates whose READMEs have claims.
+CLAIMED = """
+    aead_ciphers_base aead_ciphers aead_ciphers_wide sentence xaes key_derivation
+    quic_packets tls_messages records sealed_file deerlapse seal_file
+""".split()
 # The documents whose claims name clauses, the crate of each, and the heading above them.
 CLAIMING = (
     ("docs/CLAIMS.md", "deerlapse", "The sentence, part by part"),
-    ("crates/aead_ciphers_base/README.md", "aead_ciphers_base", "What is proved"),
-    ("crates/aead_ciphers/README.md", "aead_ciphers", "What is proved"),
-    ("crates/aead_ciphers_wide/README.md", "aead_ciphers_wide", "What is proved"),
-    ("crates/sentence/README.md", "sentence", "What is proved"),
-    ("crates/xaes/README.md", "xaes", "What is proved"),
-    ("crates/key_derivation/README.md", "key_derivation", "What is proved"),
-    ("crates/quic_packets/README.md", "quic_packets", "What is proved"),
-    ("crates/tls_messages/README.md", "tls_messages", "What is proved"),
-    ("crates/records/README.md", "records", "What is proved"),
-    ("crates/sealed_file/README.md", "sealed_file", "What is proved"),
-    ("crates/deerlapse/README.md", "deerlapse", "What is proved"),
-    ("crates/seal_file/README.md", "seal_file", "What is proved"),
+    *((f"crates/{crate}/README.md", crate, "What is proved") for crate in CLAIMED),
 )
 ENTRY = r"`[\w:]+`(?:, `[\w:]+`)*(?:: `[\w:]+`(?:, `[\w:]+`)*)?"
 # What states a claim: in parentheses in its sentences, or a line of the list below it.
