@@ -12,6 +12,9 @@
 #include <sys/stat.h>
 #include <unistd.h>
 
+/* The function of this name that would be called without this library. */
+#define NEXT(name) ((__typeof__(&name))dlsym(RTLD_NEXT, #name))
+
 static int is_failing(const char *name) {
     const char *failing = getenv("FAILING");
     return failing != NULL && strcmp(failing, name) == 0;
@@ -24,54 +27,42 @@ static int fails(const char *name) {
 }
 
 int fsync(int fd) {
-    int (*next)(int) = (int (*)(int))dlsym(RTLD_NEXT, "fsync");
     struct stat of;
     int is_folder = fstat(fd, &of) == 0 && S_ISDIR(of.st_mode);
     if (is_failing("killed")) {
         raise(SIGKILL);
     }
-    return fails(is_folder ? "fsync folder" : "fsync") ? -1 : next(fd);
+    return fails(is_folder ? "fsync folder" : "fsync") ? -1 : NEXT(fsync)(fd);
 }
 
 ssize_t read(int fd, void *to, size_t len) {
-    ssize_t (*next)(int, void *, size_t) = (ssize_t (*)(int, void *, size_t))dlsym(RTLD_NEXT, "read");
     static int reads;
     if (is_failing("read") && reads++ % 2 == 0) {
         errno = EINTR;
         return -1;
     }
-    return next(fd, to, len);
+    return NEXT(read)(fd, to, len);
 }
 
-int link(const char *from, const char *to) {
-    int (*next)(const char *, const char *) = (int (*)(const char *, const char *))dlsym(RTLD_NEXT, "link");
-    return fails("link") ? -1 : next(from, to);
-}
+int link(const char *from, const char *to) { return fails("link") ? -1 : NEXT(link)(from, to); }
 
-int rename(const char *from, const char *to) {
-    int (*next)(const char *, const char *) = (int (*)(const char *, const char *))dlsym(RTLD_NEXT, "rename");
-    return fails("rename") ? -1 : next(from, to);
-}
+int rename(const char *from, const char *to) { return fails("rename") ? -1 : NEXT(rename)(from, to); }
 
 int unlink(const char *path) {
-    int (*next)(const char *) = (int (*)(const char *))dlsym(RTLD_NEXT, "unlink");
     errno = EIO;
-    return is_failing("unlink") ? -1 : next(path);
+    return is_failing("unlink") ? -1 : NEXT(unlink)(path);
 }
 
 int fchmod(int fd, mode_t mode) {
-    int (*next)(int, mode_t) = (int (*)(int, mode_t))dlsym(RTLD_NEXT, "fchmod");
     int is_unsupported = is_failing("fchmod EPERM");
     errno = is_unsupported ? EPERM : EIO;
-    return is_unsupported || is_failing("fchmod") ? -1 : next(fd, mode);
+    return is_unsupported || is_failing("fchmod") ? -1 : NEXT(fchmod)(fd, mode);
 }
 
 int statx(int folder, const char *path, int flags, unsigned mask, struct statx *out) {
-    int (*next)(int, const char *, int, unsigned, struct statx *) =
-        (int (*)(int, const char *, int, unsigned, struct statx *))dlsym(RTLD_NEXT, "statx");
     if (is_failing("proc") && strncmp(path, "/proc/", 6) == 0) {
         errno = ENOENT;
         return -1;
     }
-    return next(folder, path, flags, mask, out);
+    return NEXT(statx)(folder, path, flags, mask, out);
 }
