@@ -286,18 +286,15 @@ static bool fix_nonce(EVP_CIPHER_CTX *ctx) { return ctrl(ctx, EVP_CTRL_GCM_SET_I
 static bool fix_4_bytes(EVP_CIPHER_CTX *ctx) { return ctrl(ctx, EVP_CTRL_GCM_SET_IV_FIXED, 4, it.nonce); }
 static bool make_nonce(EVP_CIPHER_CTX *ctx) { return ctrl(ctx, EVP_CTRL_GCM_IV_GEN, NONCE, out); }
 
-static bool lose_key(EVP_CIPHER_CTX *ctx) {
-    return EVP_CIPHER_CTX_reset(ctx) && EVP_EncryptInit_ex(ctx, pairs[0].ours, NULL, NULL, it.nonce);
+static bool reset(EVP_CIPHER_CTX *ctx, const EVP_CIPHER *cipher, const uint8_t *key, const uint8_t *nonce) {
+    return EVP_CIPHER_CTX_reset(ctx) && EVP_EncryptInit_ex(ctx, cipher, NULL, key, nonce);
 }
 
-static bool lose_nonce(EVP_CIPHER_CTX *ctx) {
-    return EVP_CIPHER_CTX_reset(ctx) && EVP_EncryptInit_ex(ctx, pairs[0].ours, NULL, it.key, NULL);
-}
+static bool lose_key(EVP_CIPHER_CTX *ctx) { return reset(ctx, pairs[0].ours, NULL, it.nonce); }
+static bool lose_nonce(EVP_CIPHER_CTX *ctx) { return reset(ctx, pairs[0].ours, it.key, NULL); }
 
 /* OpenSSL's own cipher draws one. */
-static bool lose_nonce_of_theirs(EVP_CIPHER_CTX *ctx) {
-    return EVP_CIPHER_CTX_reset(ctx) && EVP_EncryptInit_ex(ctx, pairs[0].theirs, NULL, it.key, NULL);
-}
+static bool lose_nonce_of_theirs(EVP_CIPHER_CTX *ctx) { return reset(ctx, pairs[0].theirs, it.key, NULL); }
 
 static bool begin_anew(EVP_CIPHER_CTX *ctx) { return EVP_EncryptInit_ex(ctx, NULL, NULL, NULL, NULL); }
 static bool begin_to_open(EVP_CIPHER_CTX *ctx) { return EVP_DecryptInit_ex(ctx, NULL, NULL, NULL, it.nonce); }
