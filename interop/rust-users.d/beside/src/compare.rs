@@ -136,17 +136,15 @@ macro_rules! calls_of {
 calls_of!(ring);
 calls_of!(deerlapse_ring);
 
-/// A random number below a bound.
-fn below(random: &SystemRandom, bound: u32) -> usize {
-    let mut bytes = [0; 4];
-    random.fill(&mut bytes).expect("random bytes");
-    (u32::from_le_bytes(bytes) % bound) as usize
-}
-
 fn bytes<const N: usize>(random: &SystemRandom) -> [u8; N] {
     let mut bytes = [0; N];
     random.fill(&mut bytes).expect("random bytes");
     bytes
+}
+
+/// A random number below a bound.
+fn below(random: &SystemRandom, bound: u32) -> usize {
+    (u32::from_le_bytes(bytes(random)) % bound) as usize
 }
 
 fn some_bytes(random: &SystemRandom, len: usize) -> Vec<u8> {
