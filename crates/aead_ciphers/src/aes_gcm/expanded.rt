@@ -45,7 +45,7 @@ impl GcmKey for ExpandedKey {
     }
 
     fn expand(&mut self, bytes: KeyBytes<'_>, work: &mut Work) {
-        // No round key of a longer key that was here before may stay.
+        // Clears the rows that a longer key, which was here before, may have left. No clause says so.
         self.round_keys = [[0; 8]; 15];
         self.rounds = aes::expand(&mut self.round_keys, bytes);
         let aes = aes::KeyRef::new(&self.round_keys, self.rounds);
