@@ -224,36 +224,6 @@ def unlisted(text):
     return found
 
 
-def calls_of(path):
-    """The traits and the functions of a source, in its order: what it derives or has an impl of, and the names of its functions."""
-    lines = [line for lines in items(path) for line in lines]
-    derived = re.findall(r"#\[derive\(([^)]*)\)\]", path.read_text(encoding="utf-8"))
-    traits = [name for names in derived for name in names.split(", ")]
-    traits += [found[1] for found in map(re.compile(r"impl\b.*?([\w:]+)(?:<[^ ]*>)? for ").match, lines) if found]
-    return traits, [found[1] for found in map(re.compile(r"\s*(?:pub(?:\([^)]*\))? )?fn (\w+)").match, lines) if found]
-
-
-def wrong_calls(text):
-    """A message for each file of `aead` with a type that holds a nonce sequence, unless docs/BELIEVE.md has a row that names all of
-    its traits and functions, and no others."""
-    named = {}
-    for cells in rows_of(text):
-        if not cells[-1].isdigit() and len(cells) == 3:
-            link = re.match(r"\[`[^`]+`\]\(\.\./([^)]+)\)", cells[0])[1]
-            named[link] = (NAMES.findall(cells[1]), NAMES.findall(cells[2]))
-    found = []
-    for path in sorted(TOP.glob("crates/aead_ciphers*/src/aead/*.rt")):
-        link = str(path.relative_to(TOP))
-        holds = re.search(r"^    (?:pub(?:\([^)]*\))? )?\w+: (?:N|(?:Sealing|Opening)Key<.*>),$", read(link), re.MULTILINE)
-        parts = zip(("traits", "functions"), calls_of(path), named.pop(link, ([], []))) if holds else ()
-        found += [
-            f"docs/BELIEVE.md: the {kind} of {link} are {', '.join(has)}, and it names {', '.join(said) or 'none'}"
-            for kind, has, said in parts
-            if sorted(has) != sorted(said)
-        ]
-    return found + [f"docs/BELIEVE.md: {link} has no type that holds a nonce sequence" for link in named]
-
-
 def rows_with_lines(text):
     """Each row of the tables whose last column has numbers of lines: where it starts in the text, the row, and its cells."""
     start, inside = 0, False
@@ -306,7 +276,7 @@ def compared(texts, shown):
         sums, wrong_sums = compared_sums(document, text, shown.get(document, ""), counts)
         compared += len(counts) + sums
         found += wrong_rows + wrong_sums
-    for check in (wrong_imports, unlisted, wrong_calls):
+    for check in (wrong_imports, unlisted):
         try:
             found += map(Fault, check(texts["docs/BELIEVE.md"]))
         except (KeyError, OSError) as error:
