@@ -75,6 +75,8 @@ def lines_of_parts(lines, first, last):
 
 def clauses(lines):
     """The lines of each clause of a function, by its name: '' or 'requires' if it has none. And the names of what it requires."""
+    if lines[0].endswith(") {"):
+        return {}, set()
     end = next(i for i, line in enumerate(lines) if line.strip() in ("{", "{}") or line.endswith("};"))
     head = lines[: end + (1 if lines[end].endswith("};") else 0)]
     required = {found[2] or found[1] for found in map(CLAUSE.match, head) if found and found[1]}

@@ -14,7 +14,7 @@ use aead_ciphers::aes_gcm::GcmKey;
 pub use session::Jobs;
 
 /// Does nothing. It takes the types that the functions of `one_key`, `bound` and `calls` take.
-fn takes<
+pub(crate) fn takes<
     U: library::UnboundKey,
     S: NonceSequence,
     O: NonceSequence,

@@ -5,8 +5,24 @@ ghost use Rattle.std.specs.Prelude.{◌≡◌, ◌↔◌, [], length, IsOk, IfOk
 ghost use Rattle.aead_ciphers_base.specs.Values.{aad_bytes};
 ghost use Rattle.aead_ciphers.specs.Gcm.{tag_len};
 
-use aead_ciphers::aead::{Aad, MAX_TAG_LEN, NONCE_LEN, Nonce, Tag, Unspecified};
+use aead_ciphers::aead::{
+    AES_128_GCM, AES_256_GCM, Aad, MAX_TAG_LEN, NONCE_LEN, Nonce, Tag, Unspecified,
+};
 use aead_ciphers::session::{Job, Operation};
+
+/// Returns the length of a key of `AES_128_GCM` in bytes.
+pub fn aes_128_gcm_key_len() -> usize
+    ensures { result ≡ 16 }
+{
+    AES_128_GCM.key_len()
+}
+
+/// Returns the length of a key of `AES_256_GCM` in bytes.
+pub fn aes_256_gcm_key_len() -> usize
+    ensures { result ≡ 32 }
+{
+    AES_256_GCM.key_len()
+}
 
 /// Makes a nonce of 12 bytes.
 pub fn nonce(bytes: [u8; NONCE_LEN]) -> Nonce

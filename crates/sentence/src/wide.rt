@@ -9,7 +9,7 @@ ghost use Rattle.aead_ciphers.specs.Runs.{Runs};
 ghost use Rattle.sentence.specs.Sentence.{CallStep};
 
 use crate::calls;
-use crate::keys::Jobs;
+use crate::keys::{Jobs, takes};
 use aead_ciphers::aead::{
     Algorithm, BoundKey, CounterSequence, NonceSequence, UnboundKey, Unspecified,
 };
@@ -84,4 +84,10 @@ pub fn every_list_of_calls(
         OpeningKey<CounterSequence>,
         Jobs,
     >(algorithm, key, sealing_nonces, opening_nonces, jobs)
+}
+
+/// Does nothing. It compiles since the keys, as callers import them, are types that the functions of `one_key`, `bound` and
+/// `calls` take.
+pub fn are_taken<S: NonceSequence + Drop, O: NonceSequence + Drop>() {
+    takes::<UnboundKey, S, O, LessSafeKey, SealingKey<S>, OpeningKey<O>, Jobs>();
 }
