@@ -1,5 +1,5 @@
-//! What nonces, AAD, tags and jobs hold, which the calls of the other modules take and return. Each function makes one call of
-//! the library, as callers write it.
+//! What nonces, AAD, tags and jobs hold, which the calls of the other modules take and return, and how long the keys of the
+//! algorithms are. Each function makes one call of the library, as callers write it.
 
 ghost use Rattle.std.specs.Prelude.{◌≡◌, ◌↔◌, [], length, IsOk, IfOk};
 ghost use Rattle.aead_ciphers_base.specs.Values.{aad_bytes};
