@@ -138,13 +138,12 @@ def wrong_holders(text, sources):
         found = list(holders(code, sequences if crate_of(path) in over else None))
         if any(BOUND_KEY.fullmatch(name) for _, name in every(RENAMED, code)):
             yield f"{path}: it gives the name of a bound key to another type"
-        if not found:
-            continue
         where = f"{path}: it has a type that holds a nonce sequence, and"
-        if path in named:
-            yield from differences(("traits", "functions"), path, named.pop(path), calls_of(code))
-        else:
+        if found and path not in named:
             yield f"{where} no row of {BELIEVE}"
+        if not found or path not in named:
+            continue
+        yield from differences(("traits", "functions"), path, named.pop(path), calls_of(code))
         yield from (f"{where} the module {module} inside it" for module in every(MODULE, code))
         yield from (f"{where} the macro {macro}!" for macro in MACRO.findall(code) if macro not in MACROS)
         visible = [name for kind, name, held in found if kind != "struct" or "pub" in held]
