@@ -141,13 +141,12 @@ def wrong_holders(text, sources):
         where = f"{path}: it has a type that holds a nonce sequence, and"
         if found and path not in named:
             yield f"{where} no row of {BELIEVE}"
-        if not found or path not in named:
-            continue
-        yield from differences(("traits", "functions"), path, named.pop(path), calls_of(code))
-        yield from (f"{where} the module {module} inside it" for module in every(MODULE, code))
-        yield from (f"{where} the macro {macro}!" for macro in MACRO.findall(code) if macro not in MACROS)
-        visible = [name for kind, name, held in found if kind != "struct" or "pub" in held]
-        yield from (f"{where} the fields of {name} aren't private" for name in visible)
+        elif found:
+            yield from differences(("traits", "functions"), path, named.pop(path), calls_of(code))
+            yield from (f"{where} the module {module} inside it" for module in every(MODULE, code))
+            yield from (f"{where} the macro {macro}!" for macro in MACRO.findall(code) if macro not in MACROS)
+            visible = [name for kind, name, held in found if kind != "struct" or "pub" in held]
+            yield from (f"{where} the fields of {name} aren't private" for name in visible)
     yield from (f"{BELIEVE}: {path} has no type that holds a nonce sequence" for path in named)
 
 
