@@ -56,11 +56,12 @@ typedef struct {
     deerlapse_message message;
 } context;
 
-/* Gives up a message whose nonce is used, with the keystream that is kept of it, or with the tag for which it waited. */
+/* Gives up a message that has begun, be it by its AAD, with the keystream that is kept of it, or with the tag for which it
+ * waited. What follows is refused until there is another nonce. */
 static void give_up(context *c) {
     if (c->stage == SEALING) OPENSSL_cleanse(&c->message, sizeof c->message);
     if (c->stage == WAITING) c->has_tag = false;
-    if (c->stage != UNNAMED && c->stage != NAMED) c->stage = OVER;
+    if (c->stage != UNNAMED && (c->stage != NAMED || c->aad_len > 0)) c->stage = OVER;
     c->aad_len = 0;
 }
 
@@ -132,17 +133,18 @@ static void *copy_context(void *v) {
     return NULL;
 }
 
-/* For EVP_EncryptInit_ex and EVP_DecryptInit_ex: each of key, nonce and parameters may be missing, and is then as before. */
+/* For EVP_EncryptInit_ex and EVP_DecryptInit_ex: each of key, nonce and parameters may be missing, and is then as before. So is
+ * the message, with its AAD, and the AAD of a record, as in OpenSSL's own cipher. A new nonce begins another message. Without
+ * one, a new key gives up a message that has begun, and another direction gives up one whose text has. */
 static OSSL_FUNC_cipher_set_ctx_params_fn set_params;
 
 static int init(context *c, const uint8_t *key, size_t key_len, const uint8_t *nonce, size_t nonce_len,
                 const OSSL_PARAM params[], bool encrypting) {
     KEEP_ERRNO;
-    /* A tag may have been set before, for a message that is opened. */
-    if (encrypting || c->encrypting) c->has_tag = false;
+    bool turns = encrypting != c->encrypting;
+    if (turns) c->has_tag = false;
+    if (key != NULL || (turns && c->stage != NAMED)) give_up(c);
     c->encrypting = encrypting;
-    c->has_record = false;
-    give_up(c);
     if (key != NULL) {
         c->has_key = key_len == c->key_len && deerlapse_key_init(&c->key, key, key_len);
         if (!c->has_key) return refuse(c->provider, KEY_LENGTH);
@@ -264,17 +266,24 @@ static void open_late(context *c) {
     c->has_tag = false;
 }
 
-/* A record of TLS 1.2 or DTLS 1.2, in place: eight bytes of the nonce, the text and the tag (RFC 5288 section 3). */
-static int record(context *c, uint8_t *bytes, size_t *out_len, size_t len) {
-    uint8_t *text = bytes + EXPLICIT;
-    size_t text_len = len - EXPLICIT - TAG;
+/* A record of TLS 1.2 or DTLS 1.2, in place: eight bytes of the nonce, the text and the tag (RFC 5288 section 3). Also if
+ * it is refused, it ends what has begun, and another nonce is needed. */
+static int record(context *c, uint8_t *bytes, size_t *out_len, size_t room, const uint8_t *in, size_t len) {
+    uint8_t *text;
+    size_t text_len;
     bool done;
+    give_up(c);
+    c->stage = OVER;
     c->has_record = false;
+    *out_len = 0;
     if (!c->has_key) return refuse(c->provider, NO_KEY);
-    if (!c->counts) return refuse(c->provider, NO_RECORD);
+    if (!c->counts || bytes == NULL || bytes != in || room < len) return refuse(c->provider, NO_RECORD);
     if (len < EXPLICIT + TAG) return 0;
+    text = bytes + EXPLICIT;
+    text_len = len - EXPLICIT - TAG;
     if (c->encrypting) {
         if (!next_nonce(c)) return refuse(c->provider, NO_NONCE);
+        c->stage = OVER;
         memcpy(bytes, c->nonce + FIXED, EXPLICIT);
         done = deerlapse_key_seal(&c->key, c->nonce, c->record_aad, RECORD_AAD, text, text_len, text + text_len);
     } else {
@@ -282,7 +291,6 @@ static int record(context *c, uint8_t *bytes, size_t *out_len, size_t len) {
         done = deerlapse_key_open_separate_tag(&c->key, c->nonce, c->record_aad, RECORD_AAD, text, text_len, 0,
                                                text + text_len);
     }
-    c->stage = OVER;
     if (done) *out_len = c->encrypting ? len : text_len;
     return done;
 }
@@ -301,11 +309,8 @@ static int update(void *v, unsigned char *out, size_t *out_len, size_t out_room,
     KEEP_ERRNO;
     context *c = v;
     *out_len = 0;
-    if (c->has_record) {
-        if (out == NULL || out != in || out_room < len) return refuse(c->provider, NO_RECORD);
-        return record(c, out, out_len, len);
-    }
     if (len == 0) return 1;
+    if (c->has_record) return record(c, out, out_len, out_room, in, len);
     if (!goes_on(c)) return 0;
     if (out == NULL) {
         if (c->stage != NAMED) return refuse(c->provider, LATE_AAD);
@@ -323,8 +328,8 @@ static int final(void *v, unsigned char *out, size_t *out_len, size_t out_room) 
     context *c = v;
     uint8_t none = 0;
     bool opened;
-    (void)out, (void)out_room;
     *out_len = 0;
+    if (c->has_record) return record(c, out, out_len, out_room, NULL, 0);
     if (!goes_on(c)) return 0;
     if (c->encrypting) {
         c->has_tag = finishes(c);
@@ -342,11 +347,12 @@ static int final(void *v, unsigned char *out, size_t *out_len, size_t out_room) 
  * the input, as of OpenSSL's own cipher. */
 static OSSL_FUNC_cipher_cipher_fn cipher;
 static int cipher(void *v, unsigned char *out, size_t *out_len, size_t out_room, const unsigned char *in, size_t len) {
-    const context *c = v;
-    bool is_record = c->has_record;
+    KEEP_ERRNO;
+    context *c = v;
     if (in == NULL) return final(v, out, out_len, out_room);
-    if (!update(v, out, out_len, out_room, in, len)) return 0;
-    if (is_record) *out_len = len;
+    if (!c->has_record) return update(v, out, out_len, out_room, in, len);
+    if (!record(c, out, out_len, out_room, in, len)) return 0;
+    *out_len = len;
     return 1;
 }
 

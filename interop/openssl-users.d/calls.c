@@ -1,5 +1,6 @@
 /* Calls of EVP on the provider deerlapse, which the configuration of OpenSSL prefers, beside OpenSSL's own cipher: messages,
- * records of TLS 1.2, nonces that are made, and each call that is refused, with the reason in the error queue.
+ * also with calls between their own that change nothing, records of TLS 1.2, nonces that are made, and each call that is refused,
+ * with the reason in the error queue.
  *
  * Use: calls ROUNDS [late|handles]. It prints how many there were. With `late`, the configuration has `late-tag = yes`, and the
  * calls are those that it allows. With `handles`, SIGXFSZ has a handler, which ends the program. */
@@ -34,7 +35,7 @@ typedef struct {
 static pair pairs[2];
 static message it;
 static uint8_t out[MAX_LEN + 1];
-static unsigned long messages, records, nonces, refusals;
+static unsigned long messages, between, records, nonces, refusals;
 
 static uint32_t some(uint32_t below) {
     static uint64_t state = 1;
@@ -207,32 +208,172 @@ static void a_message(const pair *by) {
     messages++;
 }
 
+/* A step returns whether it was taken. */
+typedef bool step(EVP_CIPHER_CTX *);
+
+static bool init_with(EVP_CIPHER_CTX *ctx, int encrypting, const OSSL_PARAM params[]) {
+    return EVP_CipherInit_ex2(ctx, NULL, NULL, NULL, encrypting, params);
+}
+
+static bool set_or_init_with(EVP_CIPHER_CTX *ctx, bool inits, OSSL_PARAM param) {
+    const OSSL_PARAM params[] = {param, OSSL_PARAM_END};
+    return inits ? init_with(ctx, -1, params) : EVP_CIPHER_CTX_set_params(ctx, params);
+}
+
+static bool with_nonce_len(EVP_CIPHER_CTX *ctx, bool inits) {
+    size_t len = NONCE;
+    return set_or_init_with(ctx, inits, OSSL_PARAM_construct_size_t(OSSL_CIPHER_PARAM_AEAD_IVLEN, &len));
+}
+
+static bool with_unknown(EVP_CIPHER_CTX *ctx, bool inits) {
+    return set_or_init_with(ctx, inits, OSSL_PARAM_construct_octet_string("unknown", it.text, 8));
+}
+
+static bool with_tag(EVP_CIPHER_CTX *ctx, bool inits) {
+    return set_or_init_with(ctx, inits, OSSL_PARAM_construct_octet_string(OSSL_CIPHER_PARAM_AEAD_TAG, it.tag, TAG));
+}
+
+static bool init_anyhow(EVP_CIPHER_CTX *ctx) { return init_with(ctx, -1, NULL); }
+static bool init_again(EVP_CIPHER_CTX *ctx) { return init_with(ctx, EVP_CIPHER_CTX_is_encrypting(ctx), NULL); }
+static bool init_with_none(EVP_CIPHER_CTX *ctx) { return set_or_init_with(ctx, true, OSSL_PARAM_construct_end()); }
+static bool init_with_nonce_len(EVP_CIPHER_CTX *ctx) { return with_nonce_len(ctx, true); }
+static bool init_with_unknown(EVP_CIPHER_CTX *ctx) { return with_unknown(ctx, true); }
+static bool init_with_tag(EVP_CIPHER_CTX *ctx) { return with_tag(ctx, true); }
+static bool set_key(EVP_CIPHER_CTX *ctx) { return EVP_CipherInit_ex(ctx, NULL, NULL, it.key, NULL, -1); }
+static bool set_nonce(EVP_CIPHER_CTX *ctx) { return EVP_CipherInit_ex(ctx, NULL, NULL, NULL, it.nonce, -1); }
+static bool set_none(EVP_CIPHER_CTX *ctx) { return set_or_init_with(ctx, false, OSSL_PARAM_construct_end()); }
+static bool set_nonce_len(EVP_CIPHER_CTX *ctx) { return with_nonce_len(ctx, false); }
+static bool set_unknown(EVP_CIPHER_CTX *ctx) { return with_unknown(ctx, false); }
+static bool set_tag_as_param(EVP_CIPHER_CTX *ctx) { return with_tag(ctx, false); }
+static bool set_tag(EVP_CIPHER_CTX *ctx) { return ctrl(ctx, EVP_CTRL_AEAD_SET_TAG, TAG, it.tag); }
+static bool same_nonce_len(EVP_CIPHER_CTX *ctx) { return ctrl(ctx, EVP_CTRL_AEAD_SET_IVLEN, NONCE, NULL); }
+static bool no_padding(EVP_CIPHER_CTX *ctx) { return EVP_CIPHER_CTX_set_padding(ctx, 0); }
+static bool no_aad(EVP_CIPHER_CTX *ctx) { return update(ctx, NULL, it.aad, 0); }
+static bool no_text(EVP_CIPHER_CTX *ctx) { return update(ctx, out, it.text, 0); }
+
+static bool same_key_len(EVP_CIPHER_CTX *ctx) {
+    return EVP_CIPHER_CTX_set_key_length(ctx, EVP_CIPHER_CTX_get_key_length(ctx));
+}
+
+static bool a_flag(EVP_CIPHER_CTX *ctx) {
+    EVP_CIPHER_CTX_set_flags(ctx, EVP_CIPHER_CTX_FLAG_WRAP_ALLOW);
+    return true;
+}
+
+static bool lengths(EVP_CIPHER_CTX *ctx) {
+    size_t nonce = 0, tag = 0, key = 0;
+    OSSL_PARAM asked[] = {OSSL_PARAM_size_t(OSSL_CIPHER_PARAM_IVLEN, &nonce), OSSL_PARAM_size_t(OSSL_CIPHER_PARAM_KEYLEN, &key),
+                          OSSL_PARAM_size_t(OSSL_CIPHER_PARAM_AEAD_TAGLEN, &tag), OSSL_PARAM_END};
+    return EVP_CIPHER_CTX_get_params(ctx, asked) && nonce == NONCE && tag == TAG &&
+           key == (size_t)EVP_CIPHER_CTX_get_key_length(ctx) && EVP_CIPHER_CTX_get_tag_length(ctx) == TAG;
+}
+
+static bool same_nonce(EVP_CIPHER_CTX *ctx) {
+    uint8_t updated[NONCE], original[NONCE];
+    return EVP_CIPHER_CTX_get_updated_iv(ctx, updated, NONCE) && EVP_CIPHER_CTX_get_original_iv(ctx, original, NONCE) &&
+           memcmp(updated, it.nonce, NONCE) == 0 && memcmp(original, it.nonce, NONCE) == 0;
+}
+
+/* Goes on in the copy of a copy. */
+static bool copy_and_back(EVP_CIPHER_CTX *ctx) {
+    EVP_CIPHER_CTX *to = EVP_CIPHER_CTX_new();
+    bool copied = to != NULL && EVP_CIPHER_CTX_copy(to, ctx) && EVP_CIPHER_CTX_copy(ctx, to);
+    EVP_CIPHER_CTX_free(to);
+    return copied;
+}
+
+/* The calls that change nothing. They are made anywhere; or where a nonce is set; or before the text; or before the text that is
+ * opened, whose tag some of them set. */
+static step *const neutral[] = {
+    init_anyhow, init_again,     init_with_none, init_with_nonce_len, init_with_unknown, set_none,      set_nonce_len,
+    set_unknown, same_nonce_len, same_key_len,   no_padding,          no_aad,            no_text,       a_flag,
+    lengths,     same_nonce,     copy_and_back,  set_tag,             set_tag_as_param,  init_with_tag,
+};
+enum { ANYWHERE = 15, NAMED, BEFORE_TEXT, BEFORE_OPENING = sizeof neutral / sizeof *neutral };
+
+/* Some of the first so many of them, on each of two contexts. */
+static void some_neutral(EVP_CIPHER_CTX *const ctxs[2], uint32_t kinds) {
+    for (; some(3) == 0; between++) {
+        step *call = neutral[some(kinds)];
+        CHECK(call(ctxs[0]) && call(ctxs[1]));
+    }
+}
+
+/* A message of OpenSSL's own is sealed or opened by each of the two, with such calls between the others: the same by both. It may
+ * be begun twice, or in the other direction, and be opened with a bit flipped, and with `late-tag = yes` in pieces, with its tag
+ * after them. */
+static void a_message_with_others(const pair *by, bool late) {
+    static uint8_t written[2][MAX_LEN];
+    bool encrypting = some(2) == 0, begun_so = some(2) == 0, forged = !encrypting && some(4) == 0;
+    bool twice = some(3) == 0, key_again = some(3) == 0;
+    bool tag_first = !encrypting && !(late && some(2) == 0), tag_last = !encrypting && !tag_first;
+    const uint8_t *from = encrypting ? it.text : it.sealed;
+    size_t pieces = tag_first ? 1 : 1 + some(MAX_PIECES), len;
+    EVP_CIPHER_CTX *ctxs[2];
+    uint8_t tag[TAG];
+    some_message(by);
+    if (forged && it.aad_len > 0 && some(2) == 0) {
+        it.aad[some((uint32_t)it.aad_len)] ^= 1;
+    } else if (forged) {
+        forge();
+    }
+    ctxs[0] = context(by->ours, begun_so ? encrypting : !encrypting);
+    ctxs[1] = context(by->theirs, begun_so ? encrypting : !encrypting);
+    some_neutral(ctxs, BEFORE_TEXT);
+    for (int i = 0; i < 2; i++) CHECK(!twice || (update(ctxs[i], NULL, it.text, 20) && set_nonce(ctxs[i])));
+    for (int i = 0; i < 2; i++) CHECK(!key_again || set_key(ctxs[i]));
+    some_neutral(ctxs, BEFORE_TEXT);
+    for (size_t done = 0; done < it.aad_len; done += len) {
+        len = 1 + some((uint32_t)(it.aad_len - done));
+        for (int i = 0; i < 2; i++) CHECK(update(ctxs[i], NULL, it.aad + done, len));
+        some_neutral(ctxs, BEFORE_TEXT);
+    }
+    for (int i = 0; i < 2; i++) CHECK(begun_so || init_with(ctxs[i], encrypting, NULL));
+    for (int i = 0; i < 2; i++) CHECK(!tag_first || set_tag(ctxs[i]));
+    some_neutral(ctxs, tag_first ? BEFORE_OPENING : BEFORE_TEXT);
+    for (size_t done = 0; pieces > 0; pieces--, done += len) {
+        len = pieces == 1 ? it.len - done : some((uint32_t)(it.len - done) + 1);
+        for (int i = 0; i < 2; i++) CHECK(update(ctxs[i], written[i] + done, from + done, len));
+        some_neutral(ctxs, NAMED);
+    }
+    for (int i = 0; i < 2; i++) CHECK(!tag_last || set_tag(ctxs[i]));
+    some_neutral(ctxs, NAMED);
+    for (int i = 0; i < 2; i++) CHECK(final(ctxs[i]) == !forged && ERR_peek_error() == 0);
+    some_neutral(ctxs, NAMED);
+    for (int i = 0; i < 2; i++) {
+        CHECK(forged || memcmp(written[i], encrypting ? it.sealed : it.text, it.len) == 0);
+        CHECK(!encrypting || (ctrl(ctxs[i], EVP_CTRL_AEAD_GET_TAG, TAG, tag) && memcmp(tag, it.tag, TAG) == 0));
+        EVP_CIPHER_CTX_free(ctxs[i]);
+    }
+    messages++;
+}
+
 /* Sets the AAD of a record of TLS 1.2 with so many bytes of text, and more that are its overhead. */
 static bool record_aad(EVP_CIPHER_CTX *ctx, size_t number, size_t len) {
     uint8_t aad[RECORD_AAD] = {[7] = (uint8_t)number, 23, 3, 3, (uint8_t)(len >> 8), (uint8_t)len};
     return EVP_CIPHER_CTX_ctrl(ctx, EVP_CTRL_AEAD_TLS1_AAD, RECORD_AAD, aad) == TAG;
 }
 
-/* What one seals the other opens, under nonces that it makes. With a bit flipped ours doesn't, and leaves no error. */
+/* What one seals the other opens, under nonces that it makes, with calls after their AAD that change nothing. With a bit flipped
+ * ours doesn't, and leaves no error. */
 static void some_records(const EVP_CIPHER *sealing, const EVP_CIPHER *opening, bool ours_opens) {
     static uint8_t buffer[EXPLICIT + 500 + TAG], last[EXPLICIT];
-    EVP_CIPHER_CTX *seals = EVP_CIPHER_CTX_new(), *open = EVP_CIPHER_CTX_new();
+    EVP_CIPHER_CTX *seals = EVP_CIPHER_CTX_new(), *open = EVP_CIPHER_CTX_new(), *const ctxs[] = {seals, open};
     CHECK(EVP_EncryptInit_ex(seals, sealing, NULL, it.key, NULL) && EVP_DecryptInit_ex(open, opening, NULL, it.key, NULL));
     CHECK(ctrl(seals, EVP_CTRL_GCM_SET_IV_FIXED, 4, it.nonce) && ctrl(open, EVP_CTRL_GCM_SET_IV_FIXED, 4, it.nonce));
     for (size_t number = 0; number < 100; number++) {
         size_t len = some(500), all = EXPLICIT + len + TAG;
         memcpy(buffer + EXPLICIT, it.text, len);
-        CHECK(record_aad(seals, number, EXPLICIT + len));
+        CHECK(record_aad(seals, number, EXPLICIT + len) && record_aad(open, number, all));
+        some_neutral(ctxs, ANYWHERE);
         CHECK(EVP_Cipher(seals, buffer, buffer, (unsigned)all) == (int)all);
         CHECK(number == 0 || memcmp(buffer, last, EXPLICIT) != 0);
         memcpy(last, buffer, EXPLICIT);
         if (ours_opens && number % 4 == 0) {
             buffer[EXPLICIT + some((uint32_t)(all - EXPLICIT))] ^= 0x10;
-            CHECK(record_aad(open, number, all));
             CHECK(EVP_Cipher(open, buffer, buffer, (unsigned)all) < 0 && ERR_peek_error() == 0);
             continue;
         }
-        CHECK(record_aad(open, number, all));
         CHECK(EVP_Cipher(open, buffer, buffer, (unsigned)all) == (int)all);
         CHECK(memcmp(buffer + EXPLICIT, it.text, len) == 0);
         records++;
@@ -260,12 +401,9 @@ static void made_nonces(const pair *by) {
     EVP_CIPHER_CTX_free(theirs);
 }
 
-/* The steps before a refusal, each over a context with a key and a nonce. A step returns whether it was taken. */
-
-typedef bool step(EVP_CIPHER_CTX *);
+/* The steps before a refusal, each over a context with a key and a nonce. */
 
 static bool other_nonce_len(EVP_CIPHER_CTX *ctx) { return ctrl(ctx, EVP_CTRL_AEAD_SET_IVLEN, 16, NULL); }
-static bool set_tag(EVP_CIPHER_CTX *ctx) { return ctrl(ctx, EVP_CTRL_AEAD_SET_TAG, TAG, it.tag); }
 static bool set_short_tag(EVP_CIPHER_CTX *ctx) { return ctrl(ctx, EVP_CTRL_AEAD_SET_TAG, 12, it.tag); }
 static bool get_tag(EVP_CIPHER_CTX *ctx) { return ctrl(ctx, EVP_CTRL_AEAD_GET_TAG, TAG, out); }
 
@@ -296,7 +434,7 @@ static bool lose_nonce(EVP_CIPHER_CTX *ctx) { return reset(ctx, pairs[0].ours, i
 /* OpenSSL's own cipher draws one. */
 static bool lose_nonce_of_theirs(EVP_CIPHER_CTX *ctx) { return reset(ctx, pairs[0].theirs, it.key, NULL); }
 
-static bool begin_anew(EVP_CIPHER_CTX *ctx) { return EVP_EncryptInit_ex(ctx, NULL, NULL, NULL, NULL); }
+static bool turn(EVP_CIPHER_CTX *ctx) { return init_with(ctx, !EVP_CIPHER_CTX_is_encrypting(ctx), NULL); }
 static bool begin_to_open(EVP_CIPHER_CTX *ctx) { return EVP_DecryptInit_ex(ctx, NULL, NULL, NULL, it.nonce); }
 static bool begin_record(EVP_CIPHER_CTX *ctx) { return record_aad(ctx, 0, EXPLICIT + 20); }
 static bool record(EVP_CIPHER_CTX *ctx) { return EVP_Cipher(ctx, out, out, EXPLICIT + 20 + TAG) >= 0; }
@@ -377,6 +515,13 @@ static bool give_none_elsewhere(EVP_CIPHER_CTX *ctx) {
     return EVP_DecryptUpdate(ctx, to, &written, it.sealed + half, half) && written == 0 && are_zeros(to, (size_t)half);
 }
 
+/* The AAD of a record is given up with a call that is refused. */
+static bool lose_record(EVP_CIPHER_CTX *ctx) {
+    bool refused = begin_record(ctx) && !record_elsewhere(ctx);
+    ERR_clear_error();
+    return refused;
+}
+
 /* Of the steps, all but the last are taken. */
 typedef struct {
     bool encrypting;
@@ -402,13 +547,21 @@ static const refusal refusals_always[] = {
     {true, bad_tag, {set_tag}},
     {true, no_message, {text, get_tag}},
     {true, no_message, {fix_nonce, make_nonce, text, final, get_tag, make_nonce, text, get_tag}},
+    {false, no_message, {set_tag, turn, get_tag}},
     {true, "no key is set", {lose_key, text}},
     {true, no_nonce, {lose_nonce_of_theirs, text, final, lose_nonce, text}},
     {true, no_nonce, {fix_nonce, text}},
     {true, second, {text, final, text}},
     {true, second, {final, final}},
-    {true, second, {text, begin_anew, text}},
+    {true, second, {text, final, init_again, text}},
+    {true, second, {aad, set_key, text}},
+    {true, second, {aad, set_key, aad}},
+    {true, second, {text, set_key, text}},
+    {true, second, {text, set_key, final}},
+    {true, second, {text, turn, text}},
+    {true, second, {text, turn, turn, final}},
     {true, second, {fix_4_bytes, begin_record, record, text}},
+    {true, second, {lose_record, text}},
     {true, "AAD after the message has begun", {text, aad}},
     {true, copied, {text, copy}},
     {true, copied, {fix_nonce, copy}},
@@ -416,14 +569,20 @@ static const refusal refusals_always[] = {
     {false, no_tag, {all_in_place, final}},
     {false, no_tag, {final}},
     {false, no_tag, {set_tag, open_all, final, begin_to_open, give_none_of_all, final}},
+    {true, no_tag, {text, final, begin_to_open, give_none_of_all, final}},
     {false, late_tag, {give_none_of_all, set_tag}},
     {false, late_tag, {set_tag, open_all, set_tag}},
     {false, in_pieces, {set_tag, open_half, give_none_of_half, final}},
     {false, in_pieces, {set_tag, open_all, give_none_of_2_bytes, final}},
     {false, in_pieces, {set_tag, open_all, byte_in_place, final}},
+    {false, second, {set_tag, open_all, turn, final}},
+    {false, second, {set_tag, open_all, set_key, final}},
     {false, overlaps, {set_tag, overlap, open_again, overlap_again}},
     {true, no_record, {begin_record, record}},
     {true, no_record, {fix_4_bytes, begin_record, record_elsewhere}},
+    {true, no_record, {fix_4_bytes, begin_record, init_again, record_elsewhere}},
+    {true, no_record, {fix_4_bytes, begin_record, set_key, turn, turn, text}},
+    {true, no_record, {fix_4_bytes, begin_record, final}},
     {false, NULL, {NULL}},
 };
 
@@ -561,6 +720,7 @@ int main(int argc, char **argv) {
     for (int i = 0; i < 2; i++) {
         for (long round = 0; round < rounds; round++) {
             a_message(&pairs[i]);
+            a_message_with_others(&pairs[i], late);
             if (late) late_tags(&pairs[i]);
         }
         fill(it.text, sizeof it.text);
@@ -575,7 +735,8 @@ int main(int argc, char **argv) {
         EVP_CIPHER_free(pairs[i].ours);
         EVP_CIPHER_free(pairs[i].theirs);
     }
-    printf("%lu messages, %lu records of TLS 1.2 and %lu nonces as OpenSSL's own, and %lu refusals with their reasons\n",
-           messages, records, nonces, refusals);
+    printf("%lu messages, %lu records of TLS 1.2 and %lu nonces as OpenSSL's own, with %lu calls between that change nothing, and \
+%lu refusals with their reasons\n",
+           messages, records, nonces, between, refusals);
     return 0;
 }
