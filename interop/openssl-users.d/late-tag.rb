@@ -1,5 +1,6 @@
 # Opens by Ruby's OpenSSL::Cipher with the tag set after the text: 8 MB, equal, an empty message, and forged ones and one of
-# another AAD, which are refused.
+# another AAD, which are refused. Both ends call `reset` after the AAD, which is an init of OpenSSL's with neither key nor nonce,
+# and changes nothing.
 require 'openssl'
 
 AAD = 'header'
@@ -9,6 +10,7 @@ def sealed(name, key, nonce, text)
   cipher.key = key
   cipher.iv = nonce
   cipher.auth_data = AAD
+  cipher.reset
   # Ruby takes no empty text.
   [(text.empty? ? '' : cipher.update(text)) + cipher.final, cipher.auth_tag]
 end
@@ -18,6 +20,7 @@ def opened(name, key, nonce, sealed, tag, aad = AAD)
   cipher.key = key
   cipher.iv = nonce
   cipher.auth_data = aad
+  cipher.reset
   text = sealed.empty? ? '' : cipher.update(sealed)
   cipher.auth_tag = tag
   text + cipher.final
