@@ -201,10 +201,12 @@ fn argument(rt: &HostRuntime, i: usize) -> io::Result<Option<Name>> {
 
 /// Returns the number that a word writes in decimal digits.
 fn number_in(word: &Name) -> Result<u64, Failure> {
-    let number = str::from_utf8(word.as_bytes())
+    let digits = word.as_bytes();
+    let number = str::from_utf8(digits)
         .ok()
+        .filter(|_| digits.iter().all(|byte| byte.is_ascii_digit()))
         .and_then(|text| text.parse::<u64>().ok());
-    number.ok_or(Failure::Use(anyhow!("--range takes two numbers: {word} is none")))
+    number.ok_or(Failure::Use(anyhow!("--range takes two numbers: '{word}' is none")))
 }
 
 /// Returns the failure to allocate memory for the copy of a word.
@@ -355,7 +357,7 @@ impl Arguments {
     fn take_operand(&mut self, word: Name) -> Result<(), Failure> {
         if self.verb.is_some() {
             if self.input.is_some() {
-                return Err(Failure::Use(anyhow!("unexpected argument {word}")));
+                return Err(Failure::Use(anyhow!("unexpected argument '{word}'")));
             }
             if word.is_empty() {
                 return Err(Failure::Use(anyhow!("an argument is an empty file name")));
@@ -369,7 +371,7 @@ impl Arguments {
             b"inspect" => Some(Verb::Inspect),
             b"keygen" => Some(Verb::Keygen),
             _ => {
-                let text = anyhow!("unknown command {word}: seal, open, inspect or keygen");
+                let text = anyhow!("unknown command '{word}': seal, open, inspect or keygen");
                 return Err(Failure::Use(text));
             }
         };
