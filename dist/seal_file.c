@@ -5,7 +5,8 @@
  *
  * Here are the functions that the toolchain's crates `libc` and `os` take from C, and what Rattle has no calls for: the test of
  * the processor, signals, and a passphrase that is typed. The assembly begins at rattle_main, and calls rattle_open,
- * rattle_rename and rattle_unlink, so that the handler of a signal knows which files to remove. */
+ * rattle_rename and rattle_unlink, so that the handler of a signal knows which files to remove. rattle_open also opens what is
+ * typed. */
 #define _DEFAULT_SOURCE
 #include "deerlapse.h"
 
@@ -16,6 +17,7 @@
 #include <stdio.h>
 #include <stdlib.h>
 #include <string.h>
+#include <sys/prctl.h>
 #include <sys/syscall.h>
 #include <termios.h>
 #include <unistd.h>
@@ -87,7 +89,9 @@ int statx(int folder, const char *path, int flags, unsigned mask, void *to) {
 /* The names of the new files: one beside OUT and, in a file system without hard links, OUT itself, which is empty at first.
  * Signals are blocked while a name is put here or taken away. */
 static char unfinished[2][PATH_MAX];
-static const int ending[] = {SIGHUP, SIGINT, SIGTERM};
+/* Every signal that by default ends a program, but SIGKILL, those of a fault such as SIGSEGV, and those of real time. */
+static const int ending[] = {SIGHUP,  SIGINT,  SIGQUIT,   SIGUSR1, SIGUSR2, SIGALRM,  SIGTERM,
+                             SIGPOLL, SIGXCPU, SIGVTALRM, SIGPROF, SIGPWR,  SIGSTKFLT};
 static volatile sig_atomic_t terminal = -1;
 static struct termios shown;
 
@@ -139,8 +143,71 @@ static void replace(const char *name, const char *by) {
 
 static void finished(const char *path) { replace(path, ""); }
 
-/* A path of PATH_MAX bytes or more is refused by the system. */
+/* A passphrase that is typed. */
+
+/* The program opens these to have one asked, before it creates a file. No file has such a name, since /dev/tty is no folder. */
+#define TYPED "/dev/tty/passphrase"
+#define NEW_TYPED "/dev/tty/new-passphrase"
+
+enum { ROOM = 1024 };
+
+/* Each writes why the program ends, and ends it with its exit status. */
+static _Noreturn void fail(const char *what) { perror(what), exit(3); }
+static _Noreturn void refuse(const char *why) { fprintf(stderr, "seal_file: %s\n", why), exit(2); }
+
+/* Hides what is typed. The terminal edits it and passes it on line by line, also where a program left that off. */
+static int hide(void) {
+    struct termios hidden = shown;
+    hidden.c_iflag = (hidden.c_iflag & ~(tcflag_t)(IGNCR | INLCR)) | ICRNL;
+    hidden.c_lflag = (hidden.c_lflag & ~(tcflag_t)(ECHO | ECHONL)) | ICANON | ISIG;
+    hidden.c_cc[VSUSP] = _POSIX_VDISABLE;
+    return tcsetattr(terminal, TCSAFLUSH, &hidden);
+}
+
+/* Asks for a line. Returns its length without the newline, 0 if there is no room for it, or -1. */
+static ssize_t ask(const char *prompt, char line[ROOM]) {
+    size_t len = 0;
+    if (write(terminal, prompt, strlen(prompt)) < 0) return -1;
+    do {
+        const ssize_t more = read(terminal, line + len, ROOM - len);
+        if (more < 0) return -1;
+        if (more == 0) break;
+        len += (size_t)more;
+    } while (line[len - 1] != '\n' && len < ROOM);
+    if (write(terminal, "\n", 1) < 0) return -1;
+    if (len > 0 && line[len - 1] == '\n') return (ssize_t)len - 1;
+    return len < ROOM ? (ssize_t)len : 0;
+}
+
+/* Asks on the terminal, twice for a new passphrase. Returns a pipe with it, or -1 if there is no terminal. */
+static int typed(bool is_new) {
+    static const char name[] = "seal_file: /dev/tty";
+    char line[ROOM], again[ROOM];
+    int ends[2];
+    const int tty = open("/dev/tty", O_RDWR | O_CLOEXEC);
+    if (tty < 0) return -1;
+    if (tcgetattr(tty, &shown) != 0) fail(name);
+    terminal = tty;
+    if (hide() != 0) fail(name);
+    const ssize_t len = ask("Passphrase: ", line);
+    const ssize_t len_again = len > 0 && is_new ? ask("The same again: ", again) : len;
+    if (tcsetattr(tty, TCSAFLUSH, &shown) != 0 || len < 0 || len_again < 0) fail(name);
+    terminal = -1;
+    close(tty);
+    if (len == 0) refuse("the passphrase is empty, or longer than 1023 bytes");
+    if (is_new && (len != len_again || memcmp(line, again, (size_t)len) != 0)) refuse("the passphrases differ");
+    if (pipe(ends) != 0 || write(ends[1], line, (size_t)len) != len) fail("seal_file: a pipe");
+    close(ends[1]);
+    explicit_bzero(line, sizeof line);
+    explicit_bzero(again, sizeof again);
+    return ends[0];
+}
+
+/* The calls by which the program opens, renames and removes files. A path of PATH_MAX bytes or more is refused by the system. */
+
 int rattle_open(const char *path, int flags, mode_t mode) {
+    if (strcmp(path, TYPED) == 0) return typed(false);
+    if (strcmp(path, NEW_TYPED) == 0) return typed(true);
     if (!(flags & O_EXCL)) return open(path, flags, mode);
     const sigset_t before = blocked();
     const int file = open(path, flags, mode);
@@ -165,64 +232,17 @@ int rattle_unlink(const char *path) {
     return failed;
 }
 
-/* A passphrase that is typed. */
-
-enum { ROOM = 1024 };
-
-/* Asks for a line. Returns its length without the newline, 0 if there is no room for it, or -1. */
-static ssize_t ask(const char *prompt, char line[ROOM]) {
-    if (write(terminal, prompt, strlen(prompt)) < 0) return -1;
-    const ssize_t len = read(terminal, line, ROOM);
-    if (write(terminal, "\n", 1) < 0) return -1;
-    if (len == ROOM && line[len - 1] != '\n') return 0;
-    return len > 0 && line[len - 1] == '\n' ? len - 1 : len;
-}
-
-/* Writes why the program ends, and returns its exit status. */
-static int failure(const char *what) { return perror(what), 3; }
-static int refusal(const char *why) { return fprintf(stderr, "seal_file: %s\n", why), 2; }
-
-/* Asks on the terminal, twice for a new passphrase, and puts an option that names a pipe with it in the place of `word`.
- * Returns 0, or an exit status. */
-static int take_passphrase(char **word, bool is_new) {
-    static char option[sizeof "--passphrase-file=/dev/fd/" + 3 * sizeof(int)];
-    char line[ROOM], again[ROOM];
-    int ends[2];
-    const int tty = open("/dev/tty", O_RDWR | O_CLOEXEC);
-    if (tty < 0 || tcgetattr(tty, &shown) != 0) return failure("seal_file: /dev/tty");
-    struct termios hidden = shown;
-    hidden.c_lflag &= ~(tcflag_t)ECHO;
-    hidden.c_cc[VQUIT] = hidden.c_cc[VSUSP] = _POSIX_VDISABLE;
-    terminal = tty;
-    if (tcsetattr(tty, TCSAFLUSH, &hidden) != 0) return failure("seal_file: /dev/tty");
-    const ssize_t len = ask("Passphrase: ", line);
-    const ssize_t len_again = len > 0 && is_new ? ask("The same again: ", again) : len;
-    if (tcsetattr(tty, TCSAFLUSH, &shown) != 0 || len < 0 || len_again < 0) return failure("seal_file: /dev/tty");
-    terminal = -1;
-    close(tty);
-    if (len == 0) return refusal("the passphrase is empty, or longer than 1023 bytes");
-    if (is_new && (len != len_again || memcmp(line, again, (size_t)len) != 0)) return refusal("the passphrases differ");
-    if (pipe(ends) != 0 || write(ends[1], line, (size_t)len) != len) return failure("seal_file: a pipe");
-    close(ends[1]);
-    explicit_bzero(line, sizeof line);
-    explicit_bzero(again, sizeof again);
-    snprintf(option, sizeof option, "--passphrase-file=/dev/fd/%d", ends[0]);
-    *word = option;
-    return 0;
-}
-
 int main(int argc, char **argv) {
     if (!deerlapse_cpu_supported()) {
         fputs("seal_file: this processor lacks instructions of the level x86-64-v2: SSSE3, SSE4.2 or POPCNT\n", stderr);
         return 3;
     }
-    catch_signals();
-    /* `seal --passphrase` or `open --passphrase`. */
-    if (argc > 2 && strcmp(argv[2], "--passphrase") == 0) {
-        const bool seals = strcmp(argv[1], "seal") == 0;
-        const int status = seals || strcmp(argv[1], "open") == 0 ? take_passphrase(&argv[2], seals) : 0;
-        if (status) return status;
+    /* No core file has the key or the plaintext. A limit of 0 bytes would not hold where a program takes the core by a pipe. */
+    if (prctl(PR_SET_DUMPABLE, 0) != 0) {
+        perror("seal_file: prctl");
+        return 3;
     }
+    catch_signals();
     count = (size_t)argc;
     arguments = argv;
     return rattle_main();

@@ -45,6 +45,10 @@ pub enum Failure {
     Terminal,
     /// A key would be written to a terminal.
     KeyTerminal,
+    /// No passphrase can be asked for on a terminal.
+    NotAsked,
+    /// IN is a folder.
+    InputFolder,
     /// The file cannot be sealed or opened.
     Refused(FileError),
     /// The first chunk to be opened, which has this number, was changed or cut, or the file was sealed with another AAD.
@@ -63,6 +67,7 @@ impl Failure {
         match self {
             Failure::Refused(_) | Failure::FirstRefused(_) => 1,
             Failure::Io(_, _) | Failure::NotRemoved(_, _) | Failure::NotSynced(_) => 3,
+            Failure::NotAsked | Failure::InputFolder => 3,
             _ => 2,
         }
     }
@@ -70,10 +75,12 @@ impl Failure {
     /// Returns the file or stream that the message is about, unless it is about the command line.
     pub fn place(&self) -> Option<Place> {
         match self {
-            Failure::Use(_) | Failure::AadTooLong => None,
+            Failure::Use(_) | Failure::AadTooLong | Failure::NotAsked => None,
             Failure::KeyLength(_) => Some(Place::KeyFile),
             Failure::PassphraseLength => Some(Place::PassphraseFile),
-            Failure::Refused(_) | Failure::FirstRefused(_) => Some(Place::Input),
+            Failure::Refused(_) | Failure::FirstRefused(_) | Failure::InputFolder => {
+                Some(Place::Input)
+            }
             Failure::Io(place, _) => Some(*place),
             _ => Some(Place::Output),
         }
@@ -121,6 +128,13 @@ impl fmt::Display for Failure {
                 )
             }
             Failure::KeyTerminal => write!(f, "a key is not written to a terminal"),
+            Failure::NotAsked => {
+                write!(
+                    f,
+                    "no passphrase can be asked for on a terminal: give --passphrase-file FILE"
+                )
+            }
+            Failure::InputFolder => write!(f, "a folder: tar -c makes one file of it"),
             Failure::Refused(error) => write!(f, "{error}"),
             Failure::FirstRefused(number) => {
                 write!(

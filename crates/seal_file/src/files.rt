@@ -57,6 +57,17 @@ pub fn open(rt: &HostRuntime, name: &Name) -> io::Result<File> {
     File::open(rt, text_of(name)?)
 }
 
+/// Asks for a passphrase on the terminal, twice for a new one. Returns a file of what is typed.
+///
+/// No file has these names, since /dev/tty is no folder. In the program of `dist`, its C code asks when one of them is opened.
+pub fn open_typed(rt: &HostRuntime, is_new: bool) -> io::Result<File> {
+    if is_new {
+        File::open(rt, "/dev/tty/new-passphrase")
+    } else {
+        File::open(rt, "/dev/tty/passphrase")
+    }
+}
+
 /// Creates a new file with this mode, for writing. Fails if the name exists.
 pub fn create_new(rt: &HostRuntime, name: &Name, mode: u32) -> io::Result<File> {
     File::options()

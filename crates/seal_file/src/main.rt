@@ -1,4 +1,4 @@
-//! The program `seal_file`: seals a file or opens a sealed one, under the key or the passphrase in a file, and creates keys.
+//! The program `seal_file`: seals a file or opens a sealed one, under a key or a passphrase, and creates keys.
 #![tactic(auto)]
 
 mod failure;
@@ -27,7 +27,7 @@ use sealed_file::{
 };
 use std::alloc::Global;
 use std::fs::{File, Metadata};
-use std::io::{self, ErrorKind, IsTerminal, Read, Write};
+use std::io::{self, Chain, Cursor, ErrorKind, IsTerminal, Read, Write};
 use std::process::ExitCode;
 use std::random::RandomSource;
 
@@ -129,19 +129,19 @@ fn read_front(
     name: Option<&Name>,
     most: usize,
 ) -> io::Result<(Vec<u8>, Option<Metadata>)> {
+    if let Some(name) = name {
+        return front_of(rt, files::open(rt, name)?, most);
+    }
     let mut bytes = Vec::new(rt.alloc());
-    let metadata = match name {
-        Some(name) => {
-            let file = files::open(rt, name)?;
-            let metadata = file.metadata().ok();
-            file.take(most as u64).read_to_end(&mut bytes)?;
-            metadata
-        }
-        None => {
-            rt.reader().take(most as u64).read_to_end(&mut bytes)?;
-            files::stdin_metadata(rt).ok()
-        }
-    };
+    rt.reader().take(most as u64).read_to_end(&mut bytes)?;
+    Ok((bytes, files::stdin_metadata(rt).ok()))
+}
+
+/// Returns the first bytes of an open file, at most this many, and its metadata if it can be identified.
+fn front_of(rt: &HostRuntime, file: File, most: usize) -> io::Result<(Vec<u8>, Option<Metadata>)> {
+    let mut bytes = Vec::new(rt.alloc());
+    let metadata = file.metadata().ok();
+    file.take(most as u64).read_to_end(&mut bytes)?;
     Ok((bytes, metadata))
 }
 
@@ -216,8 +216,7 @@ fn convert<'r>(rt: &'r HostRuntime, conversion: &'r Conversion) -> Result<(), Fa
     if conversion.seals_to_unnamed_stdout() && rt.stdout().is_terminal() {
         return Err(Failure::Terminal);
     }
-    let (secret, of_secret) = read_secret(rt, &conversion.secret_file)?;
-    let file = match &conversion.input {
+    let mut file = match &conversion.input {
         Some(name) => Some(with_place(Place::Input, files::open(rt, name))?),
         None => None,
     };
@@ -225,6 +224,14 @@ fn convert<'r>(rt: &'r HostRuntime, conversion: &'r Conversion) -> Result<(), Fa
         Some(file) => file.metadata().ok(),
         None => files::stdin_metadata(rt).ok(),
     };
+    if metadata.as_ref().is_some_and(|it| it.is_dir()) {
+        return Err(Failure::InputFolder);
+    }
+    let front = match &mut file {
+        Some(file) => check_first(rt, conversion, metadata.as_ref(), file)?,
+        None => check_first(rt, conversion, metadata.as_ref(), &mut rt.reader())?,
+    };
+    let (secret, of_secret) = read_secret(rt, conversion)?;
     let inputs = Inputs {
         input: metadata.as_ref(),
         secret: of_secret.as_ref(),
@@ -240,9 +247,40 @@ fn convert<'r>(rt: &'r HostRuntime, conversion: &'r Conversion) -> Result<(), Fa
         inputs,
     };
     match file {
-        Some(file) => job.write(job.input_of(file)),
-        None => job.write(Input::Stream(job.source_of(rt.reader()))),
+        Some(file) => job.write(job.input_of(front, file)),
+        None => job.write(Input::Stream(job.source_of(front, rt.reader()))),
     }
+}
+
+/// Checks before a passphrase is typed what else would be found out later: that the AAD is not too long, that OUT may be written,
+/// and that IN, if it is opened, begins as a file that is sealed under a passphrase. Returns the bytes of IN that it read.
+fn check_first<R: Read>(
+    rt: &HostRuntime,
+    conversion: &Conversion,
+    metadata: Option<&Metadata>,
+    input: &mut R,
+) -> Result<Vec<u8>, Failure> {
+    let mut front = Vec::new(rt.alloc());
+    if !matches!(conversion.secret_file, SecretFile::Typed) {
+        return Ok(front);
+    }
+    if conversion.aad_bytes().len() > MAX_AAD_LEN {
+        return Err(Failure::AadTooLong);
+    }
+    if let Some(name) = &conversion.output {
+        // What is typed is in no file.
+        let inputs = Inputs {
+            input: metadata,
+            secret: metadata,
+        };
+        check_target(rt, name, inputs, conversion.has_force)?;
+    }
+    if matches!(conversion.action, Action::Open) {
+        let mut header = input.take(PASSPHRASE_HEADER_LEN as u64);
+        with_place(Place::Input, header.read_to_end(&mut front))?;
+        iterations_in(&front).map_err(Failure::Refused)?;
+    }
+    Ok(front)
 }
 
 /// Returns the failure that one stream is named for two files: for IN or FILE, and for that with the key or the passphrase.
@@ -263,7 +301,7 @@ enum Secret {
 /// What is sealed or opened: the bytes of a stream, or a part of a sealed file that can be read at any position.
 #[derive(Drop)]
 enum Input<'r, 'a, R: Read + Drop> {
-    Stream(Source<'r, R>),
+    Stream(Source<'r, Chain<Cursor<Vec<u8>>, R>>),
     Part(File, Range, &'a FileKey),
 }
 
@@ -279,23 +317,27 @@ struct Job<'r, 'a> {
 }
 
 impl<'r, 'a> Job<'r, 'a> {
-    /// Returns a reader of IN that can show how much of it was read.
-    fn source_of<R: Read + Drop>(&self, input: R) -> Source<'r, R> {
+    /// Returns a reader of IN that can show how much of it was read, given the bytes that were read already and the rest.
+    fn source_of<R: Read + Drop>(
+        &self,
+        front: Vec<u8>,
+        rest: R,
+    ) -> Source<'r, Chain<Cursor<Vec<u8>>, R>> {
         let len = match self.inputs.input {
             Some(metadata) if metadata.is_file() => Some(metadata.len()),
             _ => None,
         };
         let is_shown = self.conversion.has_progress && self.rt.stderr().is_terminal();
-        Source::new(self.rt, input, len, is_shown)
+        Source::new(self.rt, Cursor::new(front).chain(rest), len, is_shown)
     }
 
-    /// Returns what is read from an open file. A range of a regular file that is sealed under a key is read at its place, and all
-    /// else as a stream.
-    fn input_of(&self, file: File) -> Input<'r, 'a, File> {
+    /// Returns what is read from an open file, given the bytes that were read already. A range of a regular file that is sealed
+    /// under a key is read at its place, and all else as a stream.
+    fn input_of(&self, front: Vec<u8>, file: File) -> Input<'r, 'a, File> {
         let is_file = self.inputs.input.is_some_and(|metadata| metadata.is_file());
         match (self.conversion.range, self.secret) {
             (Some(range), Secret::Key(key)) if is_file => Input::Part(file, range, key),
-            _ => Input::Stream(self.source_of(file)),
+            _ => Input::Stream(self.source_of(front, file)),
         }
     }
 
@@ -443,16 +485,26 @@ fn read_failure(error: FileError) -> Failure {
 /// Returns the key or the passphrase, and the metadata of its file.
 fn read_secret(
     rt: &HostRuntime,
-    secret_file: &SecretFile,
+    conversion: &Conversion,
 ) -> Result<(Secret, Option<Metadata>), Failure> {
-    match secret_file {
+    match &conversion.secret_file {
         SecretFile::Key(key_file) => {
             let (key, metadata) = read_key(rt, key_file)?;
             Ok((Secret::Key(key), metadata))
         }
         SecretFile::Passphrase(name) => {
-            let (text, metadata) = read_passphrase(rt, name.as_ref())?;
-            Ok((Secret::Passphrase(text), metadata))
+            let name = name.as_ref();
+            let front = read_front(rt, name, MAX_PASSPHRASE_LEN + 2);
+            let (bytes, metadata) = with_place(Place::PassphraseFile, front)?;
+            warn_of_readable_secret(rt, name, metadata.as_ref(), "passphrase");
+            Ok((passphrase_of(rt, bytes)?, metadata))
+        }
+        SecretFile::Typed => {
+            let is_new = matches!(conversion.action, Action::Seal);
+            let file = files::open_typed(rt, is_new).map_err(|_error| Failure::NotAsked)?;
+            let front = front_of(rt, file, MAX_PASSPHRASE_LEN + 2);
+            let (bytes, metadata) = with_place(Place::Console, front)?;
+            Ok((passphrase_of(rt, bytes)?, metadata))
         }
     }
 }
@@ -473,14 +525,9 @@ fn warn_of_readable_secret(
     };
 }
 
-/// Returns the passphrase in a file, or on standard input: its bytes without one newline at their end. Warns if it is odd.
-fn read_passphrase(
-    rt: &HostRuntime,
-    name: Option<&Name>,
-) -> Result<(Vec<u8>, Option<Metadata>), Failure> {
-    let front = read_front(rt, name, MAX_PASSPHRASE_LEN + 2);
-    let (mut bytes, metadata) = with_place(Place::PassphraseFile, front)?;
-    warn_of_readable_secret(rt, name, metadata.as_ref(), "passphrase");
+/// Returns the passphrase in a file with these bytes: all but one newline at their end. Warns if it is odd.
+fn passphrase_of(rt: &HostRuntime, bytes: Vec<u8>) -> Result<Secret, Failure> {
+    let mut bytes = bytes;
     if bytes.last() == Some(&b'\n') {
         bytes.pop();
     }
@@ -492,7 +539,7 @@ fn read_passphrase(
     if bytes.is_empty() || bytes.len() > MAX_PASSPHRASE_LEN {
         return Err(Failure::PassphraseLength);
     }
-    Ok((bytes, metadata))
+    Ok(Secret::Passphrase(bytes))
 }
 
 /// Returns the key in a file of 32 bytes, or on standard input, and the metadata of the file.

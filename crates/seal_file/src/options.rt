@@ -18,13 +18,14 @@ usage: seal_file seal KEY [-o OUT] [-f] [--aad TEXT] [--progress] [IN]
                       [--range START LEN] [IN]
        seal_file inspect [-k KEYFILE] FILE
        seal_file keygen -o KEYFILE
-KEY is -k KEYFILE or --passphrase-file FILE.
+KEY is --passphrase, -k KEYFILE or --passphrase-file FILE.
 
 Seal a file with AES-256-GCM in chunks of 64 KiB, open or inspect a sealed file,
 or generate a key. KEYFILE holds the 32 bytes of the key. Any file that is named -
 is standard input or output, and so are IN and OUT if they are not given.
 
   -k, --key KEYFILE    the key
+  --passphrase         ask for a passphrase on the terminal, twice to seal
   --passphrase-file FILE
                        the passphrase: the bytes of FILE without one newline at
                        their end, at most 4096
@@ -62,6 +63,8 @@ pub enum SecretFile {
     Key(KeyFile),
     /// The name of a file with a passphrase, or `None` for standard input.
     Passphrase(Option<Name>),
+    /// A passphrase is typed on the terminal.
+    Typed,
 }
 
 /// A file to be sealed or opened.
@@ -161,6 +164,7 @@ struct Arguments {
     aad: Option<Name>,
     start: Option<u64>,
     len: Option<u64>,
+    is_typed: bool,
     has_force: bool,
     has_progress: bool,
     has_help: bool,
@@ -242,6 +246,7 @@ impl Arguments {
             aad: None,
             start: None,
             len: None,
+            is_typed: false,
             has_force: false,
             has_progress: false,
             has_help: false,
@@ -252,6 +257,7 @@ impl Arguments {
     /// Takes a long option without a value.
     fn take_flag(&mut self, word: &Name) -> Result<(), Failure> {
         match word.as_bytes() {
+            b"--passphrase" => self.is_typed = true,
             b"--force" => self.has_force = true,
             b"--progress" => self.has_progress = true,
             b"--help" => self.has_help = true,
@@ -389,6 +395,7 @@ impl Arguments {
     /// Returns whether an option is given that only sealing or opening takes.
     fn has_conversion_options(&self) -> bool {
         self.passphrase_file.is_some()
+            || self.is_typed
             || self.aad.is_some()
             || self.range().is_some()
             || self.has_force
@@ -426,13 +433,14 @@ impl Arguments {
             input,
             output,
             aad,
+            is_typed,
             has_force,
             has_progress,
             ..
         } = self;
-        let secret_file = secret_file_of(key_file, passphrase_file)?;
+        let secret_file = secret_file_of(key_file, passphrase_file, is_typed)?;
         let input = input.and_then(file_of);
-        if input.is_none() && secret_file.name().is_none() {
+        if input.is_none() && secret_file.is_stdin() {
             let what = secret_file.kind_name();
             return Err(Failure::Use(anyhow!("standard input is both IN and the {what}")));
         }
@@ -532,37 +540,53 @@ impl Request {
 }
 
 impl SecretFile {
-    /// Returns the name of the file, or `None` for standard input.
+    /// Returns the name of the file, if it has one.
     pub fn name(&self) -> Option<&Name> {
         match self {
             SecretFile::Key(key_file) => key_file.name.as_ref(),
             SecretFile::Passphrase(name) => name.as_ref(),
+            SecretFile::Typed => None,
         }
+    }
+
+    /// Returns whether the key or the passphrase is read from standard input.
+    fn is_stdin(&self) -> bool {
+        self.name().is_none() && !matches!(self, SecretFile::Typed)
     }
 
     /// Returns the word for what the file contains.
     pub fn kind_name(&self) -> &'static str {
         match self {
             SecretFile::Key(_) => "key",
-            SecretFile::Passphrase(_) => "passphrase",
+            SecretFile::Passphrase(_) | SecretFile::Typed => "passphrase",
         }
     }
 }
 
-/// Returns where the key or the passphrase is. Fails unless exactly one of the two options is given.
+/// Returns where the key or the passphrase is. Fails unless exactly one of the three options is given.
 fn secret_file_of(
     key_file: Option<Name>,
     passphrase_file: Option<Name>,
+    is_typed: bool,
 ) -> Result<SecretFile, Failure> {
-    match (key_file, passphrase_file) {
-        (Some(name), None) => Ok(SecretFile::Key(key_file_named(name))),
-        (None, Some(name)) => Ok(SecretFile::Passphrase(file_of(name))),
-        (None, None) => Err(Failure::Use(anyhow!("missing -k KEYFILE or --passphrase-file FILE"))),
-        (Some(_), Some(_)) => {
-            let text = anyhow!("-k and --passphrase-file are given, of which a file takes one");
+    match (key_file, passphrase_file, is_typed) {
+        (Some(name), None, false) => Ok(SecretFile::Key(key_file_named(name))),
+        (None, Some(name), false) => Ok(SecretFile::Passphrase(file_of(name))),
+        (None, None, true) => Ok(SecretFile::Typed),
+        (None, None, false) => {
+            let text = anyhow!("missing --passphrase, -k KEYFILE or --passphrase-file FILE");
             Err(Failure::Use(text))
         }
+        (Some(_), _, true) => Err(two_secrets("-k", "--passphrase")),
+        (Some(_), Some(_), false) => Err(two_secrets("-k", "--passphrase-file")),
+        (None, Some(_), true) => Err(two_secrets("--passphrase", "--passphrase-file")),
     }
+}
+
+/// Returns the failure that two options are given, each of which names a key or a passphrase.
+fn two_secrets(first: &str, second: &str) -> Failure {
+    let text = anyhow!("{first} and {second} are given, of which a file takes one");
+    Failure::Use(text)
 }
 
 /// Returns whether the argument is an option: it begins with `-`, and is not `-` alone.
