@@ -89,7 +89,8 @@ int statx(int folder, const char *path, int flags, unsigned mask, void *to) {
 /* The names of the new files: one beside OUT and, in a file system without hard links, OUT itself, which is empty at first.
  * Signals are blocked while a name is put here or taken away. */
 static char unfinished[2][PATH_MAX];
-/* Every signal that by default ends a program, but SIGKILL, those of a fault such as SIGSEGV, and those of real time. */
+/* Each signal that ends a program by default, but SIGKILL, those of a fault such as SIGSEGV, those of real time, and SIGPIPE and
+ * SIGXFSZ, which are ignored. */
 static const int ending[] = {SIGHUP,  SIGINT,  SIGQUIT,   SIGUSR1, SIGUSR2, SIGALRM,  SIGTERM,
                              SIGPOLL, SIGXCPU, SIGVTALRM, SIGPROF, SIGPWR,  SIGSTKFLT};
 static volatile sig_atomic_t terminal = -1;
