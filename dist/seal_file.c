@@ -153,8 +153,8 @@ static void finished(const char *path) { replace(path, ""); }
 enum { ROOM = 1024 };
 
 /* Each writes why the program ends, and ends it with its exit status. */
-static _Noreturn void fail(const char *what) { perror(what), exit(3); }
-static _Noreturn void refuse(const char *why) { fprintf(stderr, "seal_file: %s\n", why), exit(2); }
+static void fail(const char *what) { perror(what), exit(3); }
+static void refuse(const char *why) { fprintf(stderr, "seal_file: %s\n", why), exit(2); }
 
 /* Hides what is typed. The terminal edits it and passes it on line by line, also where a program left that off. */
 static int hide(void) {
