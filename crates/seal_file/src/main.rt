@@ -268,7 +268,7 @@ fn check_first<R: Read>(
         return Err(Failure::AadTooLong);
     }
     if let Some(name) = &conversion.output {
-        // What is typed is in no file.
+        // What is typed is in no file, and IN stands for one.
         let inputs = Inputs {
             input: metadata,
             secret: metadata,
