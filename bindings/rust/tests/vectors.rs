@@ -8,6 +8,7 @@ use deerlapse::{
     Unspecified, Xaes256Gcm, XaesNonce,
 };
 use std::error::Error;
+use std::fmt::Debug;
 use std::mem::{size_of, MaybeUninit};
 
 /// The bytes of hexadecimal digits.
@@ -977,24 +978,38 @@ pub fn masks_and_streams() -> Result<(), Unspecified> {
     Ok(())
 }
 
+/// Asserts that a value is printed as this text for debugging, also in the alternate form.
+fn assert_prints(value: &impl Debug, text: &str) {
+    assert_eq!(format!("{value:?}"), text);
+    assert_eq!(format!("{value:#?}"), text);
+}
+
 #[test]
 fn prints_no_secret() -> Result<(), Box<dyn Error>> {
     let key = LessSafeKey::new(&[7; 16])?;
-    assert_eq!(format!("{key:?}"), "LessSafeKey { .. }");
+    assert_prints(&key, "LessSafeKey { .. }");
     let message = key.begin(nonce(), b"")?;
-    assert_eq!(format!("{message:?}"), "SealingMessage { .. }");
+    assert_prints(&message, "SealingMessage { .. }");
     let key = HeaderProtectionKey::new(&[7; 16])?;
-    assert_eq!(format!("{key:?}"), "HeaderProtectionKey { .. }");
+    assert_prints(&key, "HeaderProtectionKey { .. }");
     let key = QuicKey::new(&[7; 16], &[7; 12])?;
-    assert_eq!(format!("{key:?}"), "QuicKey { .. }");
+    assert_prints(&key, "QuicKey { .. }");
     let key = RecordKey::new(&[7; 16], &[7; 12])?;
-    assert_eq!(format!("{key:?}"), "RecordKey { .. }");
+    assert_prints(&key, "RecordKey { .. }");
     let key = Xaes256Gcm::new(&[7; 32]);
-    assert_eq!(format!("{key:?}"), "Xaes256Gcm { .. }");
+    assert_prints(&key, "Xaes256Gcm { .. }");
     let sealer = Sealer::new(&[7; 32], &[7; 12], 3..9)?;
     assert_eq!(format!("{sealer:?}"), "Sealer { numbers_left: 3..9, .. }");
+    assert_eq!(
+        format!("{sealer:#?}"),
+        "Sealer {\n    numbers_left: 3..9,\n    ..\n}"
+    );
     let opener = Opener::new(&[7; 32], &[7; 12], 3..9)?;
     assert_eq!(format!("{opener:?}"), "Opener { numbers_left: 3..9, .. }");
+    assert_eq!(
+        format!("{opener:#?}"),
+        "Opener {\n    numbers_left: 3..9,\n    ..\n}"
+    );
     assert_eq!(Unspecified.to_string(), "unspecified");
     Ok(())
 }
