@@ -224,7 +224,8 @@ impl<'b> Connection<'b> {
     /// Receives the whole records at the front of `bytes`, up to close_notify, and returns their length. The caller keeps the
     /// bytes after them until more arrive. Only protected records may come after the handshake.
     ///
-    /// Appends application data and handshake messages to `received`. Follows KeyUpdates, and notes if the peer asks for one.
+    /// Appends application data and handshake messages to `received`, where the capacity of `application_data` never falls. Follows
+    /// KeyUpdates, and notes if the peer asks for one.
     ///
     /// Each error but `Ended` ends the direction, with what came before it in `received`: `Record` if a record is rejected,
     /// `Message` if a handshake message is, or a record that is between its parts, `Alert` for an alert other than close_notify
@@ -249,6 +250,8 @@ impl<'b> Connection<'b> {
         ensures ended { IsTrue self.old.is_ended → IsErrOf result ReceiveError.Ended
             × (self.new ≡ self.old) × (bytes.new ≡ bytes.old) × (received.new ≡ received.old) }
         ensures sender { (self.new.writer ≡ self.old.writer) × (self.new.is_closed ≡ self.old.is_closed) }
+        ensures capacity { vec_capacity received.old.application_data
+            ≤ vec_capacity received.new.application_data }
     {
         if self.incoming.is_ended {
             return Err(ReceiveError::Ended);

@@ -286,6 +286,8 @@ pub(super) fn receive_records(
         (receiving incoming.old messages.old received.old) error
         (receiving incoming.new messages.new received.new)) }
     ensures open { OnOk result (IsFalse messages.new.is_closed) }
+    ensures capacity { vec_capacity received.old.application_data
+        ≤ vec_capacity received.new.application_data }
     ensures is_of { IsOfSecret incoming.new.reader.secret incoming.new.reader.key }
 {
     let mut at = 0;

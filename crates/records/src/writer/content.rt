@@ -178,6 +178,7 @@ impl Writer {
             ≤ vec_capacity out.old }
         ensures appended { out.new.items
             ≡ out.old.items ++ concat (records_of self.old content_type padding content.now) }
+        ensures capacity { vec_capacity out.old ≤ vec_capacity out.new }
         ensures counted { self.new ≡ after_content self.old padding (length content.now) }
     {
         append_pieces(
@@ -261,8 +262,9 @@ fn append_pieces(
     requires numbers { first + cut.count < 2 ^ 64 }
     requires room { vec_len out.old + records_len key.now.size_limit padding (length content.now)
         ≤ vec_capacity out.old }
-    ensures { out.new.items ≡ out.old.items ++ concat (consecutive_records key.now first
+    ensures appended { out.new.items ≡ out.old.items ++ concat (consecutive_records key.now first
         (pieces content_type key.now.size_limit padding content.now)) }
+    ensures capacity { vec_capacity out.old ≤ vec_capacity out.new }
 {
     for i in 0..cut.count {
         let piece = cut.piece(content, i);
