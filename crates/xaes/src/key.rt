@@ -18,6 +18,7 @@ use aead_ciphers_base::values::{Aad, Tag};
 use aead_ciphers_wide::aead::LessSafeKey;
 use aead_ciphers_wide::aes::Width;
 use aead_ciphers_wide::aes_gcm;
+use std::alloc::AllocError;
 use std::fmt;
 use std::marker::Model;
 use std::ops::RangeFrom;
@@ -49,7 +50,7 @@ use std::ops::RangeFrom;
 ///     key.seal_in_place_append_tag(nonce, Aad::from(aad), message)
 /// }
 /// ```
-#[derive(Clone, Drop)]
+#[derive(Drop)]
 pub struct Xaes256Gcm {
     expanded: ExpandedKey,
 }
@@ -63,6 +64,21 @@ impl Model for Xaes256Gcm {
     ghost view = { λ key. bytes_of key.expanded };
 
     ghost invariant = { λ key. IsExpanded key.expanded };
+}
+
+/// Copies the expanded key. Cloning allocates no memory and always succeeds.
+impl Clone for Xaes256Gcm {
+    ghost use Rattle.std.specs.Prelude.{◌≡◌, ⊤};
+
+    ghost is_clone = { λ key clone. clone ≡ key };
+
+    ghost is_infallible = { λ _. ⊤ };
+
+    fn clone(&self) -> Result<Self, AllocError> {
+        Ok(Xaes256Gcm {
+            expanded: self.expanded.clone()?,
+        })
+    }
 }
 
 impl Xaes256Gcm {

@@ -137,7 +137,10 @@ fn derived_keys(rt: HostRuntime) {
 
 #[test]
 fn shows_no_byte_of_the_key(rt: HostRuntime) -> Result<(), Fail> {
-    let text = format!(in rt.alloc(); "{:?}", Xaes256Gcm::new(&[3; 32]))?;
+    let key = Xaes256Gcm::new(&[3; 32]);
+    let text = format!(in rt.alloc(); "{key:?}")?;
     equal(&rt, text.as_str(), "Xaes256Gcm { .. }", "the text");
+    let text = format!(in rt.alloc(); "{key:#?}")?;
+    equal(&rt, text.as_str(), "Xaes256Gcm { .. }", "the text in the alternate form");
     Ok(())
 }
