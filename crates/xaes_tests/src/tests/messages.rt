@@ -141,6 +141,11 @@ fn shows_no_byte_of_the_key(rt: HostRuntime) -> Result<(), Fail> {
     let text = format!(in rt.alloc(); "{key:?}")?;
     equal(&rt, text.as_str(), "Xaes256Gcm { .. }", "the text");
     let text = format!(in rt.alloc(); "{key:#?}")?;
-    equal(&rt, text.as_str(), "Xaes256Gcm { .. }", "the text in the alternate form");
+    equal(
+        &rt,
+        text.as_str(),
+        "Xaes256Gcm { .. }",
+        "the text in the alternate form",
+    );
     Ok(())
 }
