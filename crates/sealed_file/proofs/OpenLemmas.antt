@@ -9,7 +9,7 @@ use specs.declared.error.FileError.TheVariants.{TooLong, OutOfMemory, Io}
 use specs.Format.{ChunkKey, Secret, sealed_chunk_len}
 use specs.Opening.{HasTag, HasRightTag, HasHeader, AreRight, IsSealed, body_of, chunk_key, chunk_of, header_len, header_of, key_of, last_chunk, messages_under, opened_chunk, opened_chunks, opened_file}
 use specs.Refusals.{HeaderRefuses, ChunkAtRefuses, ChunkRefuses, FailsInMemory, RefusesAt, OpenRefuses}
-use specs.Streams.{AppendsAfter, AppendsBeginning, AppendsRight, TakesFront}
+use specs.Streams.{AppendsAfter, AppendsAuthentic, AppendsBeginning, AppendsRight, AreMessages, BeginsAuthentic, TakesFront, next, none}
 use Rattle.sealed_file.proofs
 use proofs.ChunkLemmas.{of_same}
 use proofs.HeaderLemmas.{header_of-header_of, refused_is_none}
@@ -237,3 +237,76 @@ module _ {key : Secret} {k : ChunkKey} {file chunk : List ℕ} {n : ℕ} {rest o
           so_far = open_next s.so_far flag_right s.at.piece_is had message_is now' more written;
           at = rw same (next_read sealed_chunk_len (body_of file) n s.at next rest' read);
         }
+
+-- ---- what is written, whatever is known of the reader
+
+-- before chunk n is opened: the messages of those before it were written
+pub record Written (k : ChunkKey) (n : ℕ) (old now : Option (List ℕ)) : Type 0 where
+  pub text : List ℕ
+  pub messages : AreMessages k n false text
+  pub appended : Appends old now text
+
+pub none_written : (k : ChunkKey) (old : Option (List ℕ)) → Written k 0 old old
+none_written k old = record { text = []; messages = none; appended = Appends-nil old }
+
+-- a call that failed before it wrote anything
+pub begins_nothing : (s : Secret) (old : Option (List ℕ)) → BeginsAuthentic s old old
+begins_nothing s old = record {
+  header = [];
+  count = 0;
+  right = λ some. absurd (omega (arith, some));
+  is_whole = false;
+  text = [];
+  messages = none;
+  written = begins_none old [];
+}
+
+module _ {s : Secret} {k : ChunkKey} {header : List ℕ} {n : ℕ} {old now : Option (List ℕ)} (right : HasHeader s header)
+    (key_is : k ≡ chunk_key s header) (w : Written k n old now) where
+  -- stopped before a chunk
+  pub begins_before : BeginsAuthentic s old now
+  begins_before = record {
+    header = header;
+    count = n;
+    right = λ _. right;
+    is_whole = false;
+    text = w.text;
+    messages = subst (λ k. AreMessages k n false w.text) key_is w.messages;
+    written = (w.text, [], sym (append-nil w.text), w.appended);
+  }
+
+  module _ {is_last : Bool} {chunk message : List ℕ} (tag : HasTag k n is_last chunk)
+      (message_is : message ≡ opened_chunk k n is_last chunk) (now' : Option (List ℕ)) where
+    longer : AreMessages k (n + 1) is_last (w.text ++ message)
+    longer = subst (λ m. AreMessages k (n + 1) is_last (w.text ++ m)) (sym message_is) (next n is_last w.text chunk w.messages tag)
+
+    -- stopped within its message
+    pub begins_in : AppendsBeginning now now' message → BeginsAuthentic s old now'
+    begins_in part = record {
+      header = header;
+      count = n + 1;
+      right = λ _. right;
+      is_whole = is_last;
+      text = w.text ++ message;
+      messages = subst (λ k. AreMessages k (n + 1) is_last (w.text ++ message)) key_is longer;
+      written = begins_more old now now' w.text message [] (w.text ++ message) w.appended part (simp append-nil);
+    }
+
+    pub ends_with : is_last ≡ true → Appends now now' message → AppendsAuthentic s old now'
+    ends_with last more = record {
+      header = header;
+      right = right;
+      count = n + 1;
+      text = w.text ++ message;
+      messages = subst (λ k. AreMessages k (n + 1) true (w.text ++ message)) key_is
+          (subst (λ b. AreMessages k (n + 1) b (w.text ++ message)) last longer);
+      written = Appends-trans old now now' w.text message w.appended more;
+    }
+
+    -- another chunk was opened
+    pub written_next : is_last ≡ false → Appends now now' message → Written k (n + 1) old now'
+    written_next more written = record {
+      text = w.text ++ message;
+      messages = subst (λ b. AreMessages k (n + 1) b (w.text ++ message)) more longer;
+      appended = Appends-trans old now now' w.text message w.appended written;
+    }

@@ -1,5 +1,5 @@
 -- Files that are sealed under a passphrase.
-use Rattle.std.proofs.Common.{◌≡◌, ℕ, Result, Ok, Err, IfErr, OnOk, OnErr, IfSome, None, Some, inl, inr, ◌≤◌, List, ◌++◌, length, take, drop, refl, sym, ap, subst, ◌∙◌, arith, Option, length-take, take-take}
+use Rattle.std.proofs.Common.{◌≡◌, ℕ, Result, Ok, Err, IfErr, OnOk, OnErr, IfSome, None, Some, inl, inr, ◌≤◌, List, [], ◌++◌, length, take, drop, refl, sym, ap, subst, ◌∙◌, arith, Option, length-take, take-take}
 use Rattle.std.proofs.lemmas.List.{drop-take, take-append-le}
 use Rattle.std.specs.Fmt.{option_append}
 use Rattle.std.specs.Int.{to_be_bytes, w32}
@@ -11,8 +11,12 @@ use specs.Format.{ChunkKey, Secret, fresh_key, secret_of, with_header}
 use specs.Opening.{HasHeader, IsSealed, header_of, opened_file}
 use specs.Passphrase.{AreAllowed, FrontRefuses, HasIterations, OpensBy, PassphraseRefuses, core_of, fresh_passphrase_key, iteration_bytes, iterations_of, opened_by, passphrase_key, random_of, unlocked}
 use specs.Refusals.{IsVersion, OpenRefuses, VersionRefuses}
-use specs.Streams.{AppendsRight, AppendsRightBy, TakesFront}
-use Rattle.sealed_file.proofs.HeaderLemmas.{version_fails}
+use specs.Streams.{AppendsAuthentic, AppendsAuthenticBy, AppendsRight, AppendsRightBy, BeginsAuthentic, BeginsAuthenticBy, TakesFront}
+use Rattle.std.proofs.KnownBytes.{Keeps-refl}
+use Rattle.sealed_file.proofs
+use proofs.HeaderLemmas.{version_fails}
+use proofs.OpenLemmas.{begins_nothing}
+use proofs.StreamLemmas.{on_err}
 
 -- ---- what a result says of known bytes
 
@@ -146,3 +150,22 @@ pub fresh_is : {header first bytes key after : List ℕ} {k : ChunkKey} (passphr
     → with_header header k ≡ fresh_passphrase_key passphrase aad random iterations
 fresh_is passphrase aad random iterations header_is first_is bytes_is k_is key_is after_is =
     rw (header_is, first_is, k_is, key_is, after_is, bytes_is) refl
+
+-- ---- what is written, whatever is known of the reader
+
+pub begins_nothing_by : {T E : Type 0} (r : Result T E) (passphrase aad : List ℕ) (old : Option (List ℕ))
+    → OnErr r (BeginsAuthenticBy passphrase aad old old)
+begins_nothing_by r passphrase aad old = on_err r ([], inl (Keeps-refl old), begins_nothing (unlocked passphrase aad []) old)
+
+module _ (passphrase aad file : List ℕ) {s : Secret} (old new : Option (List ℕ)) (s_is : s ≡ unlocked passphrase aad file)
+    (whole : 64 ≤ length file) (allowed : AreAllowed (iterations_of file)) where
+  has : HasIterations file
+  has = record { whole = whole; allowed = allowed }
+
+  pub appends_by : {T E : Type 0} (r : Result T E) → OnOk r (AppendsAuthentic s old new) → OnOk r (AppendsAuthenticBy passphrase aad old new)
+  appends_by (Ok v) h = (file, has, subst (λ s. AppendsAuthentic s old new) s_is h)
+  appends_by (Err e) h = tt
+
+  pub begins_by : {T E : Type 0} (r : Result T E) → OnErr r (BeginsAuthentic s old new) → OnErr r (BeginsAuthenticBy passphrase aad old new)
+  begins_by (Ok v) h = tt
+  begins_by (Err e) h = (file, inr has, subst (λ s. BeginsAuthentic s old new) s_is h)

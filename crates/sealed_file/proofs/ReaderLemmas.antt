@@ -1,5 +1,5 @@
 -- Reading a sealed file at any position.
-use Rattle.std.proofs.Common.{◌≡◌, ◌↔◌, ℕ, Bool, Result, Ok, Err, IsOk, IfErr, OnOk, Option, Some, None, IfSome, inl, inr, true, false, ◌+◌, ◌-◌, ◌*◌, ◌/◌, ◌%◌, ◌<◌, ◌≤◌, List, ◌++◌, length, min, take, drop, refl, sym, ap, subst, ◌∙◌, arith, ◌==◌, drop-drop, eq-eqb, eqb-true, length-drop, ne_eqb, take-take, take_all, if◌then◌else◌}
+use Rattle.std.proofs.Common.{◌≡◌, ◌↔◌, ℕ, Bool, Result, Ok, Err, IsOk, IfErr, OnOk, Option, Some, None, IfSome, inl, inr, true, false, ◌+◌, ◌-◌, ◌*◌, ◌/◌, ◌%◌, ◌<◌, ◌≤◌, List, ◌++◌, length, min, take, drop, refl, sym, ap, subst, ◌∙◌, arith, ◌==◌, drop-drop, eq-eqb, eqb-true, length-drop, length-take-le, ne_eqb, take-take, take_all, if◌then◌else◌}
 use Rattle.aead_ciphers.specs.Gcm.{tag_len}
 use Rattle.std.specs.Option.{option_eq}
 use Rattle.std.proofs.lemmas.Bool.{cases_eq, cases_lt}
@@ -10,7 +10,7 @@ use specs.declared.error.FileError.{FileError}
 use specs.declared.error.FileError.TheVariants.{OutOfMemory, Io}
 use specs.Format.{ChunkKey, Secret, chunk_len, last_piece, sealed_chunk_len}
 use specs.Opening.{HasHeader, HasTagUnder, IsSealedLen, body_of, chunk_of, header_len, header_of, key_of, last_chunk, opened_chunk, opened_file, plaintext_under}
-use specs.Reader.{EndsAt, IsMessageOf, IsReadable, ReaderRefuses, file_from, message_len}
+use specs.Reader.{EndsAt, IsAuthenticChunk, IsAuthenticLen, IsMessageOf, IsReadable, ReaderRefuses, file_from, message_len}
 use specs.Refusals.{ChunkRefuses, FailsInMemory, RefusesChunk}
 use Rattle.sealed_file.proofs
 use proofs.InMemoryLemmas.{length-plaintext, piece_of_plaintext}
@@ -239,6 +239,21 @@ decided Z X Y (Some known) k i j e h = λ _ _. subst (λ n. Z ↔ HasTagUnder k 
 pub held_then : (held : Option ℕ) (i : ℕ) (P : ℕ → Type 0) → option_eq (λ a b. a == b) held (Some i) ≡ true → IfSome held P → P i
 held_then None i P e h = let never : false ≡ true = e in absurd (cc never)
 held_then (Some j) i P e h = subst P (eqb-true j i e) h
+
+-- ---- any bytes
+
+-- where the message of the last chunk is authentic, so is the length
+pub len_of : (contents : Option (List (List ℕ))) (k : ChunkKey) (start last last_len : ℕ) (buffer : List ℕ) → last_len ≤ length buffer
+    → IsAuthenticChunk contents k start last last (take (message_len last last_len last) buffer)
+    → IsAuthenticLen contents k start last (chunk_len * last + last_len)
+len_of contents k start last last_len buffer fits chunk =
+    let size : length (take (message_len last last_len last) buffer) ≡ last_len =
+    ap (λ n. length (take n buffer)) (message_len-last last last_len last refl) ∙ length-take-le last_len buffer fits in
+    record {
+      message = take (message_len last last_len last) buffer;
+      chunk = chunk;
+      size = ap (λ n. chunk_len * last + n) (sym size);
+    }
 
 -- ---- how a reader begins
 

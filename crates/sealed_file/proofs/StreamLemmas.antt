@@ -84,6 +84,11 @@ stop_then (Ok v) known h step = tt
 stop_then (Err e) None h step = tt
 stop_then (Err e) (Some x) h step = step x h
 
+-- what holds, holds where a call fails
+pub on_err : {T E : Type 0} (r : Result T E) {P : Type 0} → P → OnErr r P
+on_err (Ok v) p = tt
+on_err (Err e) p = p
+
 -- nothing is said of the known bytes
 pub says_nothing : {X : Type 0} (known : Option X) → IfSome known (λ _. ⊤)
 says_nothing None = tt

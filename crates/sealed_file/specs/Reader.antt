@@ -1,22 +1,30 @@
 -- A sealed file that is read at any position.
-use Rattle.std.specs.Prelude.{◌≡◌, ℕ, ◌+◌, ◌-◌, ◌*◌, ◌^◌, ◌<◌, ◌≤◌, List, length, take, drop, ◌⊎◌, Option, IfSome, ◌==◌, if◌then◌else◌}
+use Rattle.std.specs.Prelude.{◌≡◌, ℕ, Bool, ◌+◌, ◌-◌, ◌*◌, ◌/◌, ◌%◌, ◌^◌, ◌<◌, ◌≤◌, ⊤, List, length, take, drop, ◌⊎◌, Any, Option, Some, None, IfSome, ◌==◌, if◌then◌else◌}
 use Rattle.aead_ciphers.specs.Gcm.{tag_len}
 use Rattle.std.specs.Option.{option_map}
 use Rattle.sealed_file.specs.declared.error.FileError.{FileError}
 use Rattle.sealed_file.specs.declared.error.FileError.TheVariants.{EndsEarly, TooLong}
 use Rattle.sealed_file.specs.Format.{ChunkKey, Secret, chunk_len, last_piece, sealed_chunk_len}
-use Rattle.sealed_file.specs.Opening.{HasHeader, HasRightTag, HasTagUnder, IsSealedLen, chunk_of, header_of, key_of, last_chunk, opened_chunk, header_len}
+use Rattle.sealed_file.specs.Opening.{HasHeader, HasRightTag, HasTag, HasTagUnder, IsSealedLen, chunk_of, header_of, key_of, last_chunk, opened_chunk, header_len}
 use Rattle.sealed_file.specs.Refusals.{HeaderRefuses, RefusesChunk}
 
--- what a reader is of: the key of the chunks, the sealed file where its bytes are known, and the length of the file; the position
--- of the sealed file in the input, and the number of its last chunk; and the number of the chunk that the reader holds, if any
+-- what a reader is of: the key of the chunks, the sealed file where its bytes are known, the contents that the input may have,
+-- where these are known, and the length of the file; the position of the sealed file in the input, and the number of its last chunk; and the
+-- number of the chunk that the reader holds, if any
 pub record ReaderState : Type 0 where
   pub key : ChunkKey
   pub file : Option (List ℕ)
+  pub contents : Option (List (List ℕ))
   pub len : ℕ
   pub start : ℕ
   pub last : ℕ
   pub held : Option ℕ
+
+-- a read at this position may give these bytes: one of the contents that the input may have has them there. Where its contents are
+-- not known, it may give any
+abbrev pub MayGive : (contents : Option (List (List ℕ))) (at : ℕ) (bytes : List ℕ) → Type 0
+MayGive None at bytes = ⊤
+MayGive (Some contents) at bytes = Any (λ all. bytes ≡ take (length bytes) (drop at all)) contents
 
 -- the sealed file that an input has from byte `start` on, where its bytes are known
 abbrev pub file_from : (start : ℕ) → Option (List ℕ) → Option (List ℕ)
@@ -36,10 +44,43 @@ pub record IsMessageOf (k : ChunkKey) (file : List ℕ) (i : ℕ) (message : Lis
   pub tag : HasTagUnder k file i
   pub opened : message ≡ opened_chunk k i (i == last_chunk file) (chunk_of file i)
 
+-- the message is authentic: an input may give bytes at this position that end with the tag of the chunk with this number that is
+-- the last, or is not, and that open to the message
+pub record IsAuthentic (contents : Option (List (List ℕ))) (at : ℕ) (k : ChunkKey) (number : ℕ) (is_last : Bool)
+    (message : List ℕ) : Type 0 where
+  pub sealed : List ℕ
+  pub given : MayGive contents at sealed
+  pub tag : HasTag k number is_last sealed
+  pub opened : message ≡ opened_chunk k number is_last sealed
+
+-- the message is authentic as that of chunk i of a sealed file that begins at `start` and ends with chunk `last`
+abbrev pub IsAuthenticChunk : (contents : Option (List (List ℕ))) (k : ChunkKey) (start last i : ℕ) (message : List ℕ) → Type 0
+IsAuthenticChunk contents k start last i message =
+    IsAuthentic contents (start + header_len + sealed_chunk_len * i) k i (i == last) message
+
+-- the key of the chunks is authentic: an input may give bytes at `start` that begin with the header of this key
+pub record IsAuthenticKey (contents : Option (List (List ℕ))) (start : ℕ) (s : Secret) (k : ChunkKey) : Type 0 where
+  pub front : List ℕ
+  pub given : MayGive contents start front
+  pub header : HasHeader s (header_of front)
+  pub key : k ≡ key_of s front
+
+-- the length of a file is authentic: it ends with an authentic message of chunk `last`
+pub record IsAuthenticLen (contents : Option (List (List ℕ))) (k : ChunkKey) (start last len : ℕ) : Type 0 where
+  pub message : List ℕ
+  pub chunk : IsAuthenticChunk contents k start last last message
+  pub size : len ≡ chunk_len * last + length message
+
+-- bytes of a file from `offset` on are authentic: they are a part of the authentic message of the chunk there
+pub record IsAuthenticPart (r : ReaderState) (offset : ℕ) (bytes : List ℕ) : Type 0 where
+  pub message : List ℕ
+  pub chunk : IsAuthenticChunk r.contents r.key r.start r.last (offset / chunk_len) message
+  pub part : bytes ≡ take (length bytes) (drop (offset % chunk_len) message)
+
 -- what holds of every reader: the file ends where its length says, the last chunk has its tag, and the buffer begins with the
--- message of the chunk that the reader holds
-pub record IsReader (k : ChunkKey) (file : Option (List ℕ)) (start last last_len : ℕ) (held : Option ℕ)
-    (buffer : List ℕ) : Type 0 where
+-- message of the chunk that the reader holds; and that message and the length are authentic, also where the bytes are not known
+pub record IsReader (k : ChunkKey) (file : Option (List ℕ)) (contents : Option (List (List ℕ))) (start last last_len : ℕ)
+    (held : Option ℕ) (buffer : List ℕ) : Type 0 where
   pub few : last < 2 ^ 32 - 1
   pub short : last_len ≤ chunk_len
   pub fits : start + header_len + sealed_chunk_len * last + last_len + tag_len < 2 ^ 64
@@ -48,6 +89,8 @@ pub record IsReader (k : ChunkKey) (file : Option (List ℕ)) (start last last_l
   pub tag : IfSome file (λ file. HasTagUnder k file (last_chunk file))
   pub in_range : IfSome held (λ i. i ≤ last)
   pub message : IfSome held (λ i. IfSome file (λ file. IsMessageOf k file i (take (message_len last last_len i) buffer)))
+  pub authentic : IfSome held (λ i. IsAuthenticChunk contents k start last i (take (message_len last last_len i) buffer))
+  pub authentic_len : IsAuthenticLen contents k start last (chunk_len * last + last_len)
 
 -- a file that can be read at any position: its header is right, its length is one of a sealed file, and its last chunk has its
 -- tag

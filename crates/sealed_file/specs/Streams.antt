@@ -1,8 +1,8 @@
 -- What reading a piece, writing bytes and opening do to a reader and a writer whose bytes are known.
-use Rattle.std.specs.Prelude.{◌≡◌, ℕ, ◌<◌, List, ◌++◌, take, drop, Option, Some}
-use Rattle.std.specs.Io.KnownBytes.{Appends}
-use Rattle.sealed_file.specs.Format.{Secret}
-use Rattle.sealed_file.specs.Opening.{AreRight, HasHeader, header_of, opened_chunks}
+use Rattle.std.specs.Prelude.{◌≡◌, ℕ, ◌+◌, ◌<◌, ◌⊎◌, Bool, true, false, List, [], ◌++◌, take, drop, Option, Some}
+use Rattle.std.specs.Io.KnownBytes.{Appends, Keeps}
+use Rattle.sealed_file.specs.Format.{ChunkKey, Secret}
+use Rattle.sealed_file.specs.Opening.{AreRight, HasHeader, HasTag, chunk_key, header_of, opened_chunk, opened_chunks}
 use Rattle.sealed_file.specs.Passphrase.{HasIterations, core_of, unlocked}
 
 -- the writer's known bytes grow by a beginning of `all`
@@ -30,3 +30,39 @@ abbrev pub AppendsRightBy : (passphrase aad file : List ℕ) (old new : Option (
 AppendsRightBy passphrase aad file old new =
     let s = unlocked passphrase aad file in
     AppendsAfter (HasIterations file × HasHeader s (header_of file)) s (core_of file) old new
+
+-- the text is the messages of n chunks, in order, each of which has its tag under this key; if `is_whole`, the last of them is the last
+-- of its file
+pub data AreMessages (k : ChunkKey) : (n : ℕ) (is_whole : Bool) → List ℕ → Type 0 where
+  none : AreMessages k 0 false []
+  next : (n : ℕ) (is_last : Bool) (text chunk : List ℕ) → AreMessages k n false text → HasTag k n is_last chunk
+      → AreMessages k (n + 1) is_last (text ++ opened_chunk k n is_last chunk)
+
+-- the writer's known bytes grow by the messages of all chunks of a file, whatever is known of the reader: after a right header, each
+-- chunk has its tag
+pub record AppendsAuthentic (s : Secret) (old new : Option (List ℕ)) : Type 0 where
+  pub header : List ℕ
+  pub right : HasHeader s header
+  pub count : ℕ
+  pub text : List ℕ
+  pub messages : AreMessages (chunk_key s header) count true text
+  pub written : Appends old new text
+
+-- the writer's known bytes grow by a beginning of such messages, after a header that is right unless there are none
+pub record BeginsAuthentic (s : Secret) (old new : Option (List ℕ)) : Type 0 where
+  pub header : List ℕ
+  pub count : ℕ
+  pub right : 0 < count → HasHeader s header
+  pub is_whole : Bool
+  pub text : List ℕ
+  pub messages : AreMessages (chunk_key s header) count is_whole text
+  pub written : AppendsBeginning old new text
+
+-- the same under a passphrase, for the random bytes and the iterations of a header, which are allowed
+abbrev pub AppendsAuthenticBy : (passphrase aad : List ℕ) (old new : Option (List ℕ)) → Type 0
+AppendsAuthenticBy passphrase aad old new =
+    (front : List ℕ) × HasIterations front × AppendsAuthentic (unlocked passphrase aad front) old new
+
+abbrev pub BeginsAuthenticBy : (passphrase aad : List ℕ) (old new : Option (List ℕ)) → Type 0
+BeginsAuthenticBy passphrase aad old new =
+    (front : List ℕ) × (Keeps old new ⊎ HasIterations front) × BeginsAuthentic (unlocked passphrase aad front) old new

@@ -5,7 +5,7 @@ ghost use Rattle.std.specs.Io.KnownBytes.{Appends};
 ghost use Rattle.sealed_file.specs.Format.{secret, secret_of};
 ghost use Rattle.sealed_file.specs.Opening.{IsSealed, opened_file};
 ghost use Rattle.sealed_file.specs.Refusals.{OpenRefuses};
-ghost use Rattle.sealed_file.specs.Streams.{AppendsRight};
+ghost use Rattle.sealed_file.specs.Streams.{AppendsAuthentic, AppendsRight, BeginsAuthentic};
 
 use crate::chunk::{MAX_CHUNKS, SEALED_CHUNK_LEN, open_chunk};
 use crate::error::FileError;
@@ -52,6 +52,10 @@ pub fn open<R: Read, W: Write>(
         OpenRefuses (secret key.now []) file error)) }
     ensures nothing_past { OnErr result (IfSome (R.remaining input.old) (λ file.
         AppendsRight (secret key.now []) file (W.contents output.old) (W.contents output.new))) }
+    ensures authentic { OnOk result
+        (AppendsAuthentic (secret key.now []) (W.contents output.old) (W.contents output.new)) }
+    ensures authentic_part { OnErr result
+        (BeginsAuthentic (secret key.now []) (W.contents output.old) (W.contents output.new)) }
 {
     open_with_aad(alloc, key, &[], input, output)
 }
@@ -73,6 +77,10 @@ pub fn open_with_aad<R: Read, W: Write>(
         OpenRefuses (secret key.now aad.now) file error)) }
     ensures nothing_past { OnErr result (IfSome (R.remaining input.old) (λ file.
         AppendsRight (secret key.now aad.now) file (W.contents output.old) (W.contents output.new))) }
+    ensures authentic { OnOk result
+        (AppendsAuthentic (secret key.now aad.now) (W.contents output.old) (W.contents output.new)) }
+    ensures authentic_part { OnErr result
+        (BeginsAuthentic (secret key.now aad.now) (W.contents output.old) (W.contents output.new)) }
 {
     open_version(alloc, VERSION, key, aad, input, output)
 }
@@ -94,6 +102,10 @@ pub(crate) fn open_version<R: Read, W: Write>(
         OpenRefuses (secret_of version key.now aad.now) file error)) }
     ensures nothing_past { OnErr result (IfSome (R.remaining input.old) (λ file.
         AppendsRight (secret_of version key.now aad.now) file (W.contents output.old) (W.contents output.new))) }
+    ensures authentic { OnOk result
+        (AppendsAuthentic (secret_of version key.now aad.now) (W.contents output.old) (W.contents output.new)) }
+    ensures authentic_part { OnErr result
+        (BeginsAuthentic (secret_of version key.now aad.now) (W.contents output.old) (W.contents output.new)) }
 {
     let (mut chunk, mut next) = buffers(alloc)?;
     read_header(input, &mut chunk)?;

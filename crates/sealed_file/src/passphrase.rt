@@ -6,7 +6,7 @@ ghost use Rattle.sealed_file.specs.Format.{chunk_len, last_piece, sealed_file, s
 ghost use Rattle.sealed_file.specs.Opening.{header_of};
 ghost use Rattle.sealed_file.specs.Passphrase.{AreAllowed, FrontRefuses, OpensBy, PassphraseRefuses, fresh_passphrase_key, iterations_of, opened_by, passphrase_key, unlocked};
 ghost use Rattle.sealed_file.specs.Refusals.{IsVersion, SealRefuses};
-ghost use Rattle.sealed_file.specs.Streams.{AppendsBeginning, AppendsRightBy};
+ghost use Rattle.sealed_file.specs.Streams.{AppendsAuthenticBy, AppendsBeginning, AppendsRightBy, BeginsAuthenticBy};
 
 use crate::error::FileError;
 use crate::header::{ChunkCipher, FRONT_LEN, HEADER_LEN, RANDOM_LEN, check_front, header_of};
@@ -173,6 +173,10 @@ pub fn open_with_passphrase<R: Read, W: Write>(
         PassphraseRefuses passphrase.now aad.now file error)) }
     ensures nothing_past { OnErr result (IfSome (R.remaining input.old) (λ file.
         AppendsRightBy passphrase.now aad.now file (W.contents output.old) (W.contents output.new))) }
+    ensures authentic { OnOk result
+        (AppendsAuthenticBy passphrase.now aad.now (W.contents output.old) (W.contents output.new)) }
+    ensures authentic_part { OnErr result
+        (BeginsAuthenticBy passphrase.now aad.now (W.contents output.old) (W.contents output.new)) }
 {
     let mut header = Vec::new(alloc);
     read_piece(input, PASSPHRASE_HEADER_LEN, &mut header)?;

@@ -1,6 +1,7 @@
 //! Inputs that are read at any position.
 
-ghost use Rattle.std.specs.Prelude.{ℕ, List, ◌≡◌, ◌-◌, ◌≤◌, Option, length, min, take, drop, IsOk, IfOk, IfSome};
+ghost use Rattle.std.specs.Prelude.{ℕ, List, ◌≡◌, ◌-◌, ◌≤◌, Option, None, length, min, take, drop, IsOk, IfOk, IfSome};
+ghost use Rattle.sealed_file.specs.Reader.{MayGive};
 
 use crate::stream::fill;
 use std::fs::File;
@@ -10,18 +11,24 @@ use std::os::unix::fs::FileExt;
 /// Bytes that can be read at any position, such as a file or a slice.
 ///
 /// The ghost member `bytes` is the bytes, for a type of which a contract can say what they are. For another, such as a file, it
-/// is `None`: then no clause says what is read, nor that a call succeeds.
+/// is `None`: then no clause says that a call succeeds, nor, but for `contents`, what is read.
+///
+/// The ghost member `contents` is for a type whose calls may fail, or whose bytes may change between two calls: a read that
+/// succeeds gives bytes of one of these contents. Where they are `None`, it may give any bytes.
 ///
 /// # Examples
 ///
-/// An input that counts its calls, and fails at one of them. A read has written half of `buf` by then.
+/// An input that counts its calls, and fails at one of them. A read has written half of `buf` by then. What a call reads that
+/// succeeds is known.
 /// From `crates/sealed_file_tests/src/tests/reader.rt`:
 ///
 /// ```
 /// impl ReadAt for FailingInput<'_> {
-///     ghost use Rattle.std.specs.Prelude.{None};
+///     ghost use Rattle.std.specs.Prelude.{None, Some, [], ◌∷◌};
 ///
 ///     ghost bytes = { λ _. None };
+///
+///     ghost contents = { λ input. Some (input.bytes.now ∷ []) };
 ///
 ///     fn size(&mut self) -> io::Result<u64> {
 ///         self.count()?;
@@ -40,11 +47,15 @@ pub trait ReadAt {
     // The bytes, where they are known.
     ghost bytes: { Self → Option (List ℕ) };
 
+    // The contents that it may have, where they are known. A call may fail all the same.
+    ghost contents: { Self → Option (List (List ℕ)) } = { λ _. None };
+
     /// Returns how many bytes there are.
     fn size(&mut self) -> io::Result<u64>
         ensures known { IfSome (bytes self.old) (λ all. IsOk result) }
         ensures value { IfSome (bytes self.old) (λ all. IfOk result (λ n. n ≡ length all)) }
-        ensures same { bytes self.new ≡ bytes self.old };
+        ensures same { bytes self.new ≡ bytes self.old }
+        ensures steady { contents self.new ≡ contents self.old };
 
     /// Reads the bytes from `at` on into the front of `buf`, and returns how many: fewer than `buf` has only at the end. On an
     /// error any bytes of `buf` may be others.
@@ -53,7 +64,9 @@ pub trait ReadAt {
         ensures known { IfSome (bytes self.old) (λ all. IsOk result) }
         ensures count { IfSome (bytes self.old) (λ all. IfOk result (λ n. n ≡ min (length buf.old) (length all - at))) }
         ensures value { IfSome (bytes self.old) (λ all. IfOk result (λ n. take n buf.new ≡ take n (drop at all))) }
-        ensures same { bytes self.new ≡ bytes self.old };
+        ensures given { IfOk result (λ n. MayGive (contents self.old) at (take n buf.new)) }
+        ensures same { bytes self.new ≡ bytes self.old }
+        ensures steady { contents self.new ≡ contents self.old };
 }
 
 /// The bytes from `at` on, or none if there are fewer.
@@ -80,9 +93,11 @@ pub(crate) fn read_slice_at(bytes: &[u8], at: u64, buf: &mut [u8]) -> usize
 }
 
 impl ReadAt for &[u8] {
-    ghost use Rattle.std.specs.Prelude.{Some};
+    ghost use Rattle.std.specs.Prelude.{Some, [], ◌∷◌};
 
     ghost bytes = { λ slice. Some slice.now };
+
+    ghost contents = { λ slice. Some (slice.now ∷ []) };
 
     fn size(&mut self) -> io::Result<u64> {
         Ok(self.len() as u64)
@@ -96,8 +111,12 @@ impl ReadAt for &[u8] {
 
 impl<T: AsBytes> ReadAt for Cursor<T> {
     ghost use Rattle.std.specs.Io.Cursor.{cursor_inner};
+    ghost use Rattle.std.specs.Option.{option_map};
+    ghost use Rattle.std.specs.Prelude.{[], ◌∷◌};
 
     ghost bytes = { λ cursor. T.bytes (cursor_inner cursor) };
+
+    ghost contents = { λ cursor. option_map (λ all. all ∷ []) (T.bytes (cursor_inner cursor)) };
 
     fn size(&mut self) -> io::Result<u64> {
         Ok(self.get_ref().as_byte_slice().len() as u64)

@@ -4,7 +4,7 @@ ghost use Rattle.std.specs.Prelude.{◌≡◌, ◌+◌, ◌-◌, ◌*◌, ◌/�
 ghost use Rattle.aead_ciphers.specs.Gcm.{tag_len};
 ghost use Rattle.sealed_file.specs.Format.{chunk_len, last_piece, sealed_chunk_len, secret};
 ghost use Rattle.sealed_file.specs.Opening.{HasHeader, HasTag, HasTagUnder, IsSealedLen, header_of, key_of, last_chunk, opened_chunk, opened_file, plaintext_under, header_len};
-ghost use Rattle.sealed_file.specs.Reader.{EndsAt, IsMessageOf, IsReadable, LengthRefuses, ReaderRefuses, file_from, message_len};
+ghost use Rattle.sealed_file.specs.Reader.{EndsAt, IsAuthentic, IsAuthenticChunk, IsAuthenticKey, IsAuthenticLen, IsAuthenticPart, IsMessageOf, IsReadable, LengthRefuses, MayGive, ReaderRefuses, file_from, message_len};
 ghost use Rattle.sealed_file.specs.Refusals.{ChunkRefuses, FailsInMemory, HeaderRefuses, RefusesChunk};
 
 use crate::chunk::{CHUNK_LEN, MAX_CHUNKS, SEALED_CHUNK_LEN, open_ciphertext};
@@ -59,13 +59,14 @@ impl<R: ReadAt> Model for SealedReader<R> {
     ghost view = { λ r. record {
       key = r.cipher;
       file = file_from r.layout.start (R.bytes r.input);
+      contents = R.contents r.input;
       len = chunk_len * r.layout.last + r.layout.last_len;
       start = r.layout.start;
       last = r.layout.last;
       held = r.held;
     } };
 
-    ghost invariant = { λ r. IsReader r.cipher (file_from r.layout.start (R.bytes r.input))
+    ghost invariant = { λ r. IsReader r.cipher (file_from r.layout.start (R.bytes r.input)) (R.contents r.input)
         r.layout.start r.layout.last r.layout.last_len r.held r.buffer.items };
 }
 
@@ -130,7 +131,10 @@ fn read_chunk_cipher<R: ReadAt>(
         IfOk result (λ cipher. cipher ≡ key_of (secret key.now aad.now) file)) }
     ensures refused { IfSome (file_from start (R.bytes input.old)) (λ file.
         IfErr result (λ error. HeaderRefuses (secret key.now aad.now) (header_of file) error)) }
+    ensures authentic_key { IfOk result (λ cipher.
+        IsAuthenticKey (R.contents input.old) start (secret key.now aad.now) cipher) }
     ensures same { R.bytes input.new ≡ R.bytes input.old }
+    ensures steady { R.contents input.new ≡ R.contents input.old }
 {
     let mut header = [0; HEADER_LEN];
     let count = input.read_at(start, &mut header)?;
@@ -143,6 +147,7 @@ fn sealed_len_of<R: ReadAt>(input: &mut R, start: u64) -> Result<u64, FileError>
     ensures value { IfSome (file_from start (R.bytes input.old)) (λ file. IfOk result (λ n. n ≡ length file)) }
     ensures fits { IfOk result (λ n. 0 < n → start + n < 2 ^ 64) }
     ensures same { R.bytes input.new ≡ R.bytes input.old }
+    ensures steady { R.contents input.new ≡ R.contents input.old }
 {
     let end = input.size()?;
     Ok(end.saturating_sub(start))
@@ -161,6 +166,7 @@ fn layout_of<R: ReadAt>(input: &mut R, start: u64) -> Result<Layout, FileError>
     ensures refused { IfSome (file_from start (R.bytes input.old)) (λ file.
         IfErr result (λ error. LengthRefuses (length file) error)) }
     ensures same { R.bytes input.new ≡ R.bytes input.old }
+    ensures steady { R.contents input.new ≡ R.contents input.old }
 {
     let sealed_len = sealed_len_of(input, start)?;
     let (last, last_len) = last_chunk_of_len(sealed_len)?;
@@ -176,7 +182,9 @@ fn read_exact_at<R: ReadAt>(input: &mut R, at: u64, buf: &mut [u8]) -> Result<()
     ensures len { length buf.new ≡ length buf.old }
     ensures known { IfSome (R.bytes input.old) (λ all. length buf.old ≤ length all - at → IsOk result) }
     ensures value { IfSome (R.bytes input.old) (λ all. OnOk result (buf.new ≡ take (length buf.old) (drop at all))) }
+    ensures given { OnOk result (MayGive (R.contents input.old) at buf.new) }
     ensures same { R.bytes input.new ≡ R.bytes input.old }
+    ensures steady { R.contents input.new ≡ R.contents input.old }
 {
     let count = input.read_at(at, buf)?;
     if count < buf.len() {
@@ -225,8 +233,11 @@ fn open_from<R: ReadAt>(
         ≡ opened_chunk cipher.now number is_last (take (length sealed.old) (drop at all)))) }
     ensures refused { IfSome (R.bytes input.old) (λ all. length sealed.old ≤ length all - at → IfErr result (λ error.
         ChunkRefuses cipher.now number is_last (take (length sealed.old) (drop at all)) error)) }
+    ensures authentic { OnOk result (IsAuthentic (R.contents input.old) at cipher.now number is_last
+        (take (length sealed.old - tag_len) sealed.new)) }
     ensures len { length sealed.new ≡ length sealed.old }
     ensures same { R.bytes input.new ≡ R.bytes input.old }
+    ensures steady { R.contents input.new ≡ R.contents input.old }
 {
     read_exact_at(input, at, sealed)?;
     open_slice(cipher, number, is_last, sealed)
@@ -251,8 +262,11 @@ fn open_chunk_of<R: ReadAt>(
         (IsMessageOf cipher.now file number (take (message_len layout.last layout.last_len number) buffer.new))) }
     ensures refused { IfSome (file_from layout.start (R.bytes input.old)) (λ file.
         IfErr result (λ error. RefusesChunk cipher.now file number error)) }
+    ensures authentic { OnOk result (IsAuthenticChunk (R.contents input.old) cipher.now layout.start layout.last number
+        (take (message_len layout.last layout.last_len number) buffer.new)) }
     ensures len { length buffer.new ≡ sealed_chunk_len }
     ensures same { R.bytes input.new ≡ R.bytes input.old }
+    ensures steady { R.contents input.new ≡ R.contents input.old }
 {
     let len = message_len(number, layout.last, layout.last_len) + MAX_TAG_LEN;
     let at = layout.start + HEADER_LEN as u64 + u64::from(number) * SEALED_CHUNK_LEN as u64;
@@ -297,6 +311,11 @@ impl<R: ReadAt + Drop> SealedReader<R> {
             reader.len ≡ length (opened_file (secret key.now aad.now) file))) }
         ensures refused { IfSome (file_from start (R.bytes input)) (λ file. IfErr result (λ error.
             FailsInMemory ⊤ (ReaderRefuses (secret key.now aad.now) file) error)) }
+        ensures contents { IfOk result (λ reader. reader.contents ≡ R.contents input) }
+        ensures authentic_key { IfOk result (λ reader.
+            IsAuthenticKey (R.contents input) start (secret key.now aad.now) reader.key) }
+        ensures authentic_len { IfOk result (λ reader.
+            IsAuthenticLen (R.contents input) reader.key start reader.last reader.len) }
     {
         let buffer = Vec::with_capacity(alloc, SEALED_CHUNK_LEN)?;
         SealedReader::with_buffer(key, aad, input, start, buffer)
@@ -327,6 +346,11 @@ impl<R: ReadAt + Drop> SealedReader<R> {
             reader.len ≡ length (opened_file (secret key.now aad.now) file))) }
         ensures refused { IfSome (file_from start (R.bytes input)) (λ file. IfErr result (λ error.
             FailsInMemory (vec_capacity buffer < sealed_chunk_len) (ReaderRefuses (secret key.now aad.now) file) error)) }
+        ensures contents { IfOk result (λ reader. reader.contents ≡ R.contents input) }
+        ensures authentic_key { IfOk result (λ reader.
+            IsAuthenticKey (R.contents input) start (secret key.now aad.now) reader.key) }
+        ensures authentic_len { IfOk result (λ reader.
+            IsAuthenticLen (R.contents input) reader.key start reader.last reader.len) }
     {
         let cipher = read_chunk_cipher(&mut input, start, key, aad)?;
         let layout = layout_of(&mut input, start)?;
@@ -346,6 +370,7 @@ impl<R: ReadAt + Drop> SealedReader<R> {
         ensures value { result ≡ self.now.len }
         ensures opened { IfSome self.now.file (λ file. result ≡ length (plaintext_under self.now.key file)) }
         ensures authentic { IfSome self.now.file (λ file. HasTagUnder self.now.key file (last_chunk file)) }
+        ensures authentic_len { IsAuthenticLen self.now.contents self.now.key self.now.start self.now.last result }
     {
         u64::from(self.layout.last) * CHUNK_LEN as u64 + self.layout.last_len as u64
     }
@@ -364,6 +389,7 @@ impl<R: ReadAt + Drop> SealedReader<R> {
             → (IsOk result ↔ HasTagUnder self.old.key file (offset / chunk_len))) }
         ensures opened { IfSome self.old.file (λ file. IfOk result (λ n.
             take n buf.new ≡ take n (drop offset (plaintext_under self.old.key file)))) }
+        ensures authentic { IfOk result (λ n. 0 < n → IsAuthenticPart self.old offset (take n buf.new)) }
         ensures rest { IfOk result (λ n. drop n buf.new ≡ drop n buf.old) }
         ensures refused { IfSome self.old.file (λ file. IfErr result (λ error.
             RefusesChunk self.old.key file (offset / chunk_len) error)) }

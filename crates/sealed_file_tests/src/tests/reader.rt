@@ -1,5 +1,7 @@
 //! Reading at any position: over a file in memory, over an input that fails, and over a `File` that is cut.
 
+ghost use Rattle.std.specs.Prelude.{◌≡◌};
+
 use crate::tests::checks::{displays, holds, same};
 use crate::tests::sealed_files::{ENDS_EARLY, KEY, file_of};
 use sealed_file::{
@@ -159,7 +161,9 @@ struct FailingInput<'a> {
 
 impl FailingInput<'_> {
     /// Counts a call, and fails if it is the one that must fail.
-    fn count(&mut self) -> io::Result<()> {
+    fn count(&mut self) -> io::Result<()>
+        ensures { self.new.bytes.now ≡ self.old.bytes.now }
+    {
         let number = self.made;
         self.made = number.wrapping_add(1);
         if number == self.failing {
@@ -170,9 +174,11 @@ impl FailingInput<'_> {
 }
 
 impl ReadAt for FailingInput<'_> {
-    ghost use Rattle.std.specs.Prelude.{None};
+    ghost use Rattle.std.specs.Prelude.{None, Some, [], ◌∷◌};
 
     ghost bytes = { λ _. None };
+
+    ghost contents = { λ input. Some (input.bytes.now ∷ []) };
 
     fn size(&mut self) -> io::Result<u64> {
         self.count()?;

@@ -6,7 +6,7 @@ use Rattle.sealed_file.specs.Opening.{header_of}
 use Rattle.sealed_file.specs.Passphrase.{AreAllowed, iterations_of, unlocked}
 use Rattle.sealed_file.proofs
 use proofs.OpenLemmas.{stop_at_start}
-use proofs.PassphraseLemmas.{accepted_by, core_is, err_then, error_then, front_refused, gives, ok_then, refused_by, stopped_by}
+use proofs.PassphraseLemmas.{accepted_by, appends_by, begins_by, begins_nothing_by, core_is, err_then, error_then, front_refused, gives, ok_then, refused_by, stopped_by}
 use proofs.StreamLemmas.{stop}
 use proofs.passphrase.open_with_passphrase.Goals as goal
 
@@ -62,3 +62,28 @@ returns-clause-nothing_past g c = err_then c.open_version.result _ _ c.in_ok-rea
     (subst (λ l. 64 ≤ length l) c.deref.ensures.value (c.in_ok-iterations.ensures.whole refl))
     (subst AreAllowed (c.in_ok-iterations.ensures.iterations ∙ ap iterations_of c.deref.ensures.value) c.in_ok-iterations.ensures.allowed)
     c.open_version.ensures.nothing_past)
+
+pub returns-in_err-read_piece-clause-authentic_part : goal.returns-in_err-read_piece-clause-authentic_part
+returns-in_err-read_piece-clause-authentic_part g c = begins_nothing_by _ _ _ _
+
+pub returns-in_err-iterations-clause-authentic_part : goal.returns-in_err-iterations-clause-authentic_part
+returns-in_err-iterations-clause-authentic_part g c = begins_nothing_by _ _ _ _
+
+pub returns-in_err-unlocked-clause-authentic_part : goal.returns-in_err-unlocked-clause-authentic_part
+returns-in_err-unlocked-clause-authentic_part g c = begins_nothing_by _ _ _ _
+
+pub returns-clause-authentic : goal.returns-clause-authentic
+returns-clause-authentic g c = appends_by c.args.passphrase.now c.args.aad.now _ _ _
+    (ap (secret_of 3 c.in_ok-unlocked.unlocked.key) c.deref-4.ensures.value ∙ c.in_ok-unlocked.ensures.made
+    ∙ ap (unlocked c.args.passphrase.now c.args.aad.now) c.deref-2.ensures.value)
+    (subst (λ l. 64 ≤ length l) c.deref.ensures.value (c.in_ok-iterations.ensures.whole refl))
+    (subst AreAllowed (c.in_ok-iterations.ensures.iterations ∙ ap iterations_of c.deref.ensures.value) c.in_ok-iterations.ensures.allowed)
+    c.open_version.result c.open_version.ensures.authentic
+
+pub returns-clause-authentic_part : goal.returns-clause-authentic_part
+returns-clause-authentic_part g c = begins_by c.args.passphrase.now c.args.aad.now _ _ _
+    (ap (secret_of 3 c.in_ok-unlocked.unlocked.key) c.deref-4.ensures.value ∙ c.in_ok-unlocked.ensures.made
+    ∙ ap (unlocked c.args.passphrase.now c.args.aad.now) c.deref-2.ensures.value)
+    (subst (λ l. 64 ≤ length l) c.deref.ensures.value (c.in_ok-iterations.ensures.whole refl))
+    (subst AreAllowed (c.in_ok-iterations.ensures.iterations ∙ ap iterations_of c.deref.ensures.value) c.in_ok-iterations.ensures.allowed)
+    c.open_version.result c.open_version.ensures.authentic_part

@@ -4,7 +4,7 @@ use lemmas.Option.{IfSome_then}
 use lemmas.Result.{err_from_is_err_and}
 use Rattle.sealed_file.specs.Format.{sealed_chunk_len, secret}
 use Rattle.sealed_file.proofs
-use proofs.ReaderLemmas.{begun, both, exactly_if, last_fails, length_begun, readable_if, tag_of, unreadable}
+use proofs.ReaderLemmas.{begun, both, exactly_if, last_fails, len_of, length_begun, readable_if, tag_of, unreadable}
 use proofs.reader.SealedReader.with_buffer.Goals as goal
 
 pub returns-in_err-open_chunk_of-clause-accepted :
@@ -43,7 +43,16 @@ invariant_of-result g c =
           (rw (c.in_ok-layout.ensures.start, c.layout_of.ensures.same) at c.in_ok-open_chunk_of.ensures.accepted));
       in_range = omega arith;
       message = rw (items, c.open_chunk_of.ensures.same) c.in_ok-open_chunk_of.ensures.message;
+      authentic = rw (items, c.open_chunk_of.ensures.steady) c.in_ok-open_chunk_of.ensures.authentic;
+      authentic_len =
+          rw c.open_chunk_of.ensures.steady (len_of _ _ _ _ _ new (omega (arith, size, c.in_ok-layout.ensures.short))
+          c.in_ok-open_chunk_of.ensures.authentic);
     }
+
+pub returns-clause-authentic_len : goal.returns-clause-authentic_len
+returns-clause-authentic_len g c =
+    rw (← c.read_chunk_cipher.ensures.steady, ← c.layout_of.ensures.steady, ← c.in_ok-layout.ensures.start) (len_of _ _ _ _ _ c.open_chunk_of.new.buffer
+    (omega (arith, c.open_chunk_of.ensures.len, c.in_ok-layout.ensures.short)) c.in_ok-open_chunk_of.ensures.authentic)
 
 pub returns-clause-readable : goal.returns-clause-readable
 returns-clause-readable g c =
