@@ -8,9 +8,9 @@ use Rattle.sealed_file.specs.Format.{ChunkKey, Secret, chunk_len, last_piece, se
 use Rattle.sealed_file.specs.Opening.{HasHeader, HasRightTag, HasTag, HasTagUnder, IsSealedLen, chunk_of, header_of, key_of, last_chunk, opened_chunk, header_len}
 use Rattle.sealed_file.specs.Refusals.{HeaderRefuses, RefusesChunk}
 
--- what a reader is of: the key of the chunks, the sealed file where its bytes are known, the contents that the input may have,
--- where these are known, and the length of the file; the position of the sealed file in the input, and the number of its last chunk; and the
--- number of the chunk that the reader holds, if any
+-- what a reader is of: the key of the chunks, the sealed file where its bytes are known, the contents that the input may have
+-- where these are known, and the length of the file; the position of the sealed file in the input, and the number of its last
+-- chunk; and the number of the chunk that the reader holds, if any
 pub record ReaderState : Type 0 where
   pub key : ChunkKey
   pub file : Option (List ℕ)
@@ -20,8 +20,8 @@ pub record ReaderState : Type 0 where
   pub last : ℕ
   pub held : Option ℕ
 
--- a read at this position may give these bytes: one of the contents that the input may have has them there. Where its contents are
--- not known, it may give any
+-- a read at this position may give these bytes: one of the contents that the input may have has them there. Where its
+-- contents are not known, a read may give any bytes
 abbrev pub MayGive : (contents : Option (List (List ℕ))) (at : ℕ) (bytes : List ℕ) → Type 0
 MayGive None at bytes = ⊤
 MayGive (Some contents) at bytes = Any (λ all. bytes ≡ take (length bytes) (drop at all)) contents
@@ -44,7 +44,7 @@ pub record IsMessageOf (k : ChunkKey) (file : List ℕ) (i : ℕ) (message : Lis
   pub tag : HasTagUnder k file i
   pub opened : message ≡ opened_chunk k i (i == last_chunk file) (chunk_of file i)
 
--- the message is authentic: an input may give bytes at this position that end with the tag of the chunk with this number that is
+-- the message is authentic: a read at this position may give bytes that end with the tag of the chunk with this number that is
 -- the last, or is not, and that open to the message
 pub record IsAuthentic (contents : Option (List (List ℕ))) (at : ℕ) (k : ChunkKey) (number : ℕ) (is_last : Bool)
     (message : List ℕ) : Type 0 where
@@ -58,7 +58,7 @@ abbrev pub IsAuthenticChunk : (contents : Option (List (List ℕ))) (k : ChunkKe
 IsAuthenticChunk contents k start last i message =
     IsAuthentic contents (start + header_len + sealed_chunk_len * i) k i (i == last) message
 
--- the key of the chunks is authentic: an input may give bytes at `start` that begin with the header of this key
+-- the key of the chunks is authentic: a read at `start` may give bytes that begin with the header of this key
 pub record IsAuthenticKey (contents : Option (List (List ℕ))) (start : ℕ) (s : Secret) (k : ChunkKey) : Type 0 where
   pub front : List ℕ
   pub given : MayGive contents start front

@@ -1,4 +1,4 @@
--- What reading a piece, writing bytes and opening do to a reader and a writer whose bytes are known.
+-- What reading a piece, writing bytes and opening do to a reader and a writer, most of it where their bytes are known.
 use Rattle.std.specs.Prelude.{◌≡◌, ℕ, ◌+◌, ◌<◌, ◌⊎◌, Bool, true, false, List, [], ◌++◌, take, drop, Option, Some}
 use Rattle.std.specs.Io.KnownBytes.{Appends, Keeps}
 use Rattle.sealed_file.specs.Format.{ChunkKey, Secret}
@@ -31,15 +31,15 @@ AppendsRightBy passphrase aad file old new =
     let s = unlocked passphrase aad file in
     AppendsAfter (HasIterations file × HasHeader s (header_of file)) s (core_of file) old new
 
--- the text is the messages of n chunks, in order, each of which has its tag under this key; if `is_whole`, the last of them is the last
--- of its file
+-- the messages of n chunks, in order, each of which has its tag under this key: if `is_whole`, the last of them as the last chunk
+-- of a file, and all others as chunks that are not the last
 pub data AreMessages (k : ChunkKey) : (n : ℕ) (is_whole : Bool) → List ℕ → Type 0 where
   none : AreMessages k 0 false []
   next : (n : ℕ) (is_last : Bool) (text chunk : List ℕ) → AreMessages k n false text → HasTag k n is_last chunk
       → AreMessages k (n + 1) is_last (text ++ opened_chunk k n is_last chunk)
 
--- the writer's known bytes grow by the messages of all chunks of a file, whatever is known of the reader: after a right header, each
--- chunk has its tag
+-- the writer's known bytes grow by the messages of chunks that have their tags under the key of a right header, up to a last chunk:
+-- what is written of any reader, also of one whose bytes are not known
 pub record AppendsAuthentic (s : Secret) (old new : Option (List ℕ)) : Type 0 where
   pub header : List ℕ
   pub right : HasHeader s header
@@ -48,7 +48,7 @@ pub record AppendsAuthentic (s : Secret) (old new : Option (List ℕ)) : Type 0 
   pub messages : AreMessages (chunk_key s header) count true text
   pub written : Appends old new text
 
--- the writer's known bytes grow by a beginning of such messages, after a header that is right unless there are none
+-- the writer's known bytes grow by a beginning of such messages, under the key of a header that is right unless there are none
 pub record BeginsAuthentic (s : Secret) (old new : Option (List ℕ)) : Type 0 where
   pub header : List ℕ
   pub count : ℕ
@@ -58,7 +58,7 @@ pub record BeginsAuthentic (s : Secret) (old new : Option (List ℕ)) : Type 0 w
   pub messages : AreMessages (chunk_key s header) count is_whole text
   pub written : AppendsBeginning old new text
 
--- the same under a passphrase, for the random bytes and the iterations of a header, which are allowed
+-- the same under a passphrase, with the random bytes and the iterations of a front that has allowed ones
 abbrev pub AppendsAuthenticBy : (passphrase aad : List ℕ) (old new : Option (List ℕ)) → Type 0
 AppendsAuthenticBy passphrase aad old new =
     (front : List ℕ) × HasIterations front × AppendsAuthentic (unlocked passphrase aad front) old new
