@@ -1,10 +1,26 @@
-/* Vectors of standards through the calls for C that derive secrets and keys, that seal and open packets of QUIC and records of
- * TLS 1.3, and of XAES-256-GCM: vectors.txt, on standard input. It needs no OpenSSL. */
+/* SPDX-License-Identifier: Apache-2.0
+ *
+ * Vectors of standards through the calls for C that derive secrets and keys, that seal and open packets of QUIC and records of
+ * TLS 1.3, and of XAES-256-GCM: protocols.txt, which is the argument or standard input. The status is 1 if a check fails, and 77
+ * if the processor is below the level of the library. */
 #include "deerlapse.h"
-#include "../../tools/targets.d/checks.h"
+#include <stdio.h>
+#include <stdlib.h>
+#include <string.h>
 
 /* The most bytes of a vector and of a line, and the most words of one. */
-enum { MAX = 2000, LINE = 8000, WORDS = 10 };
+enum { MAX = 2000, LINE = 8000, WORDS = 10, TAG = 16 };
+
+/* What is tried: the first word of a line. */
+static const char *trying = "";
+
+#define CHECK(is)                                                                           \
+    do {                                                                                    \
+        if (!(is)) {                                                                        \
+            printf("failed: %s:%d: %s, of %s\n", __FILE__, __LINE__, #is, trying);          \
+            exit(1);                                                                        \
+        }                                                                                   \
+    } while (0)
 
 /* A word of a line, its bytes if it is of hexadecimal digits, and its value if it is a number. */
 typedef struct {
@@ -152,9 +168,15 @@ static void of_line(word *w) {
     }
 }
 
-int main(void) {
+int main(int argc, char **argv) {
     static char line[LINE];
-    while (fgets(line, sizeof line, stdin)) {
+    FILE *lines = argc > 1 ? fopen(argv[1], "r") : stdin;
+    CHECK(lines);
+    if (!deerlapse_cpu_supported()) {
+        printf("this processor lacks instructions that the library was built for\n");
+        return 77;
+    }
+    while (fgets(line, sizeof line, lines)) {
         if (line[0] == '#') continue;
         CHECK(strchr(line, '\n'));
         read_words(line);
