@@ -1,6 +1,6 @@
 //! Inputs that are read at any position.
 
-ghost use Rattle.std.specs.Prelude.{ℕ, List, ◌≡◌, ◌-◌, ◌≤◌, Option, None, length, min, take, drop, IsOk, IfOk, IfSome};
+ghost use Rattle.std.specs.Prelude.{ℕ, List, ◌≡◌, ◌+◌, ◌-◌, ◌^◌, ◌≤◌, Option, None, length, min, take, drop, IsOk, IfOk, IfSome, OnErr};
 ghost use Rattle.sealed_file.specs.Reader.{MayGive};
 
 use crate::stream::fill;
@@ -135,7 +135,15 @@ struct FileFrom<'a> {
 }
 
 impl Read for FileFrom<'_> {
-    fn read(&mut self, buf: &mut [u8]) -> io::Result<usize> {
+    ghost use Rattle.std.specs.Io.{ReadsAtMost};
+    ghost use Rattle.std.specs.Io.KnownBytes.{ReadConsumes};
+
+    fn read(&mut self, buf: &mut [u8]) -> io::Result<usize>
+        ensures bound { ReadsAtMost result buf.new }
+        ensures bytes { ReadConsumes None None result buf.new }
+        ensures advances { IfOk result (λ n. self.new.at ≡ min (self.old.at + n) (2 ^ 64 - 1)) }
+        ensures stays { OnErr result (self.new.at ≡ self.old.at) }
+    {
         let count = self.file.read_at(buf, self.at)?;
         self.at = self.at.saturating_add(count as u64);
         Ok(count)
