@@ -1,0 +1,44 @@
+//! Authenticated encryption with additional authenticated data (AEAD), by AES-GCM (SP 800-38D).
+//!
+//! Read `LessSafeKey` first, whose calls take the nonce. `SealingKey` and `OpeningKey` take theirs from a
+//! `NonceSequence`.
+
+mod algorithm;
+mod bound_key;
+mod counter_sequence;
+mod in_out;
+pub mod lend;
+mod less_safe_key;
+mod nonce_sequence;
+mod opening_key;
+pub mod quic;
+mod sealing_key;
+mod unbound_key;
+mod xored_sequence;
+
+use crate::aes_gcm::ExpandedKey;
+pub use aead_ciphers_base::error::Unspecified;
+pub use aead_ciphers_base::values::{Aad, MAX_TAG_LEN, NONCE_LEN, Nonce, Tag};
+pub use algorithm::{AES_128_GCM, AES_256_GCM, Algorithm};
+pub use bound_key::BoundKey;
+pub use counter_sequence::CounterSequence;
+pub use in_out::InOut;
+pub use nonce_sequence::NonceSequence;
+pub use unbound_key::UnboundKey;
+pub use xored_sequence::{XoredSequence, nonce_of};
+
+/// The same keys over any expanded AES-GCM key.
+pub mod generic {
+    pub use super::less_safe_key::LessSafeKey;
+    pub use super::opening_key::OpeningKey;
+    pub use super::sealing_key::SealingKey;
+}
+
+/// `generic::LessSafeKey` over the ciphers of these libraries.
+pub type LessSafeKey = less_safe_key::LessSafeKey<ExpandedKey>;
+
+/// `generic::SealingKey` over the ciphers of these libraries.
+pub type SealingKey<N> = sealing_key::SealingKey<ExpandedKey, N>;
+
+/// `generic::OpeningKey` over the ciphers of these libraries.
+pub type OpeningKey<N> = opening_key::OpeningKey<ExpandedKey, N>;

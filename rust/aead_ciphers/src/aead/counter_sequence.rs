@@ -1,0 +1,80 @@
+//! The nonce sequence of a fixed prefix and a counter.
+
+use crate::aead::{NONCE_LEN, Nonce, NonceSequence, Unspecified};
+
+/// A sequence of 12-byte nonces: a prefix of 4 bytes, which is the same in all of them, followed by a number in 8
+/// big-endian bytes, which counts up (the fixed field and the invocation field of SP 800-38D section 8.2.1). It cannot
+/// be cloned. ring has no such type.
+///
+/// # Examples
+///
+/// `gives` asserts the next nonce, or with `None` that none is left.
+/// From `crates/aead_ciphers_tests/src/tests/sequences.rt`:
+///
+/// ```
+/// let mut sequence = CounterSequence::new([1, 2, 3, 4], 0x05060708090a0bff, 2)?;
+/// gives(
+///     &rt,
+///     &mut sequence,
+///     Some(&[1, 2, 3, 4, 5, 6, 7, 8, 9, 10, 11, 255]),
+/// );
+/// gives(
+///     &rt,
+///     &mut sequence,
+///     Some(&[1, 2, 3, 4, 5, 6, 7, 8, 9, 10, 12, 0]),
+/// );
+/// gives(&rt, &mut sequence, None);
+/// ```
+pub struct CounterSequence {
+    prefix: [u8; 4],
+    first: u64,
+    count: u64,
+    used: u64,
+}
+
+impl CounterSequence {
+    /// Creates a sequence of `count` nonces, whose numbers count up from `first`. None of them is used yet.
+    ///
+    /// # Errors
+    ///
+    /// Fails with `Unspecified` if `first + count` is greater than 2^64.
+    ///
+    /// <details><summary>Contract</summary>
+    ///
+    /// ```text
+    /// ensures accepted { IsOk result ↔ (first + count ≤ 2 ^ 64) }
+    /// ensures made { IfOk result (λ sequence. sequence ≡ record { fixed = prefix; first = first; count = count; used = 0 }) }
+    /// ```
+    ///
+    /// </details>
+    pub fn new(prefix: [u8; 4], first: u64, count: u64) -> Result<Self, Unspecified> {
+        if count > 0 && first > u64::MAX - (count - 1) {
+            return Err(Unspecified);
+        }
+        Ok(CounterSequence {
+            prefix,
+            first,
+            count,
+            used: 0,
+        })
+    }
+}
+
+/// Returns the nonce of `prefix` and `number`.
+fn prefixed(prefix: &[u8; 4], number: u64) -> Nonce {
+    let mut bytes = [0; NONCE_LEN];
+    bytes[..4].copy_from_slice(prefix);
+    bytes[4..].copy_from_slice(&number.to_be_bytes());
+    Nonce::assume_unique_for_key(bytes)
+}
+
+impl NonceSequence for CounterSequence {
+    fn advance(&mut self) -> Result<Nonce, Unspecified> {
+        if self.used >= self.count {
+            return Err(Unspecified);
+        }
+        let nonce = prefixed(&self.prefix, self.first + self.used);
+        self.used += 1;
+        Ok(nonce)
+    }
+}

@@ -1,0 +1,147 @@
+//! The AEAD key that opens messages under the nonces of a sequence.
+
+use crate::aead::lend::lend_plaintext;
+use crate::aead::less_safe_key::LessSafeKey;
+use crate::aead::{Aad, Algorithm, BoundKey, NonceSequence, UnboundKey, Unspecified};
+use crate::aes_gcm::GcmKey;
+use core::fmt;
+use core::ops::RangeFrom;
+
+/// An AEAD key for opening that is bound to a nonce sequence: each call uses the next nonce. It cannot be cloned.
+///
+/// # Examples
+///
+/// Creates a key that counts its nonces. From `crates/aead_ciphers_tests/src/tests/examples/connection.rt`:
+///
+/// ```
+/// let sequence = CounterSequence::new(prefix, 0, NONCES)?;
+/// Ok(OpeningKey::new(UnboundKey::new(algorithm, key_bytes)?, sequence))
+/// ```
+///
+/// Opens the next message. A rejected message consumes its nonce too.
+/// From `crates/aead_ciphers_tests/src/tests/examples/connection.rt`:
+///
+/// ```
+/// key.open_in_place_to_front(Aad::from(aad), message)
+/// ```
+pub struct OpeningKey<K: GcmKey, N> {
+    key: LessSafeKey<K>,
+    nonce_sequence: N,
+}
+
+impl<K: GcmKey, N> fmt::Debug for OpeningKey<K, N> {
+    fn fmt(&self, f: &mut fmt::Formatter<'_>) -> fmt::Result {
+        let algorithm = self.key.algorithm();
+        write!(f, "OpeningKey {{ algorithm: {algorithm:?} }}")
+    }
+}
+
+impl<K: GcmKey, N: NonceSequence> BoundKey<N> for OpeningKey<K, N> {
+    fn new(unbound_key: UnboundKey, nonce_sequence: N) -> Self {
+        OpeningKey {
+            key: LessSafeKey::new(unbound_key),
+            nonce_sequence,
+        }
+    }
+
+    fn algorithm(&self) -> &'static Algorithm {
+        self.key.algorithm()
+    }
+}
+
+impl<K: GcmKey, N: NonceSequence> OpeningKey<K, N> {
+    /// Like `open_within`, but returns the length of the plaintext in bytes. The plaintext is at the front of `in_out`.
+    /// ring has no such method.
+    ///
+    /// <details><summary>Contract</summary>
+    ///
+    /// ```text
+    /// ensures call { OpeningCall N.spent N.is_closed N.origin N.gives N.refuses N.is_next self.old self.new (aad_bytes aad.entry) ciphertext_and_tag.start in_out.old in_out.new result }
+    /// ensures count { IfOk result (λ n. n ≡ length in_out.old - tag_len - ciphertext_and_tag.start) }
+    /// ```
+    ///
+    /// </details>
+    pub fn open_within_to_front(
+        &mut self,
+        aad: Aad<'_>,
+        in_out: &mut [u8],
+        ciphertext_and_tag: RangeFrom<usize>,
+    ) -> Result<usize, Unspecified> {
+        let nonce = self.nonce_sequence.advance()?;
+        self.key
+            .open_within_to_front(nonce, aad, in_out, ciphertext_and_tag)
+    }
+
+    /// Like `open_in_place`, but returns the length of the plaintext in bytes. The plaintext is at the front of
+    /// `in_out`. ring has no such method.
+    ///
+    /// <details><summary>Contract</summary>
+    ///
+    /// ```text
+    /// ensures call { OpeningCall N.spent N.is_closed N.origin N.gives N.refuses N.is_next self.old self.new (aad_bytes aad.entry) 0 in_out.old in_out.new result }
+    /// ensures count { IfOk result (λ n. n ≡ length in_out.old - tag_len) }
+    /// ```
+    ///
+    /// </details>
+    pub fn open_in_place_to_front(
+        &mut self,
+        aad: Aad<'_>,
+        in_out: &mut [u8],
+    ) -> Result<usize, Unspecified> {
+        self.open_within_to_front(aad, in_out, 0..)
+    }
+
+    /// Opens a ciphertext in place with its tag attached under the next nonce, and returns the plaintext (SP 800-38D
+    /// algorithm 5).
+    ///
+    /// The ciphertext followed by the 16-byte tag is `in_out[ciphertext_and_tag]`. The plaintext, which is as long as
+    /// the ciphertext, is written to the front of `in_out`. The bytes after it, including the tag, are unchanged.
+    ///
+    /// # Errors
+    ///
+    /// Fails with `Unspecified`, and leaves `in_out` unchanged, if the sequence returns no nonce, which is checked
+    /// first. Otherwise the nonce is consumed, and the call fails in the same way if `in_out` is shorter than 16 bytes,
+    /// if `ciphertext_and_tag.start` is greater than `in_out.len() - 16`, if the lengths exceed the limits of
+    /// `LessSafeKey::seal_in_place_separate_tag`, or if the tag is not that of the ciphertext and `aad`.
+    ///
+    /// <details><summary>Contract</summary>
+    ///
+    /// ```text
+    /// ensures* writes_back { sem 𝓛 (LendsFront in_out.entry result (length in_out.old - tag_len - ciphertext_and_tag.start)) }
+    /// ensures call { OpeningCall N.spent N.is_closed N.origin N.gives N.refuses N.is_next self.old self.new (aad_bytes aad.entry) ciphertext_and_tag.start in_out.old (lent_buffer result in_out.old) result }
+    /// ensures count { IfOk result (λ plaintext. length plaintext.now ≡ length in_out.old - tag_len - ciphertext_and_tag.start) }
+    /// ensures plaintext { IfOk result (λ plaintext. UnderNext (N.is_next self.old.sequence) (λ nonce. plaintext.now ≡ gcm_decrypted (aes self.old.key.bytes) nonce (drop ciphertext_and_tag.start (take (length in_out.old - tag_len) in_out.old)))) }
+    /// ```
+    ///
+    /// </details>
+    pub fn open_within<'a>(
+        &mut self,
+        aad: Aad<'_>,
+        in_out: &'a mut [u8],
+        ciphertext_and_tag: RangeFrom<usize>,
+    ) -> Result<&'a mut [u8], Unspecified> {
+        let opened = self.open_within_to_front(aad, in_out, ciphertext_and_tag);
+        lend_plaintext(in_out, opened)
+    }
+
+    /// Opens the whole of `in_out` under the next nonce, like `open_within` with the range `0..`.
+    ///
+    /// <details><summary>Contract</summary>
+    ///
+    /// ```text
+    /// ensures* writes_back { sem 𝓛 (LendsFront in_out.entry result (length in_out.old - tag_len)) }
+    /// ensures call { OpeningCall N.spent N.is_closed N.origin N.gives N.refuses N.is_next self.old self.new (aad_bytes aad.entry) 0 in_out.old (lent_buffer result in_out.old) result }
+    /// ensures count { IfOk result (λ plaintext. length plaintext.now ≡ length in_out.old - tag_len) }
+    /// ensures plaintext { IfOk result (λ plaintext. UnderNext (N.is_next self.old.sequence) (λ nonce. plaintext.now ≡ gcm_decrypted (aes self.old.key.bytes) nonce (take (length in_out.old - tag_len) in_out.old))) }
+    /// ```
+    ///
+    /// </details>
+    pub fn open_in_place<'a>(
+        &mut self,
+        aad: Aad<'_>,
+        in_out: &'a mut [u8],
+    ) -> Result<&'a mut [u8], Unspecified> {
+        let opened = self.open_in_place_to_front(aad, in_out);
+        lend_plaintext(in_out, opened)
+    }
+}

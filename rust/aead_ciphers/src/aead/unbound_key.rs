@@ -1,0 +1,72 @@
+//! AEAD keys without a role, from which the other AEAD keys are made.
+
+use crate::aead::algorithm::Algorithm;
+use aead_ciphers_base::aes::{AES_128_KEY_LEN, AES_256_KEY_LEN, KeyBytes};
+use aead_ciphers_base::error::Unspecified;
+use core::fmt;
+
+/// An AEAD key without a role or a nonce sequence. It holds the key bytes, which are expanded when it becomes a
+/// `LessSafeKey`, a `SealingKey` or an `OpeningKey`.
+pub struct UnboundKey {
+    algorithm: &'static Algorithm,
+    bytes: UnboundBytes,
+}
+
+/// The bytes of a key, by its length.
+#[allow(non_camel_case_types)]
+enum UnboundBytes {
+    AES_128([u8; AES_128_KEY_LEN]),
+    AES_256([u8; AES_256_KEY_LEN]),
+}
+
+impl UnboundKey {
+    /// Creates a key for `algorithm` from `key_bytes`.
+    ///
+    /// # Errors
+    ///
+    /// Fails with `Unspecified` if `key_bytes` is not `algorithm.key_len()` bytes long.
+    ///
+    /// <details><summary>Contract</summary>
+    ///
+    /// ```text
+    /// ensures accepted { IsOk result ↔ (length key_bytes.now ≡ key_len algorithm.now) }
+    /// ensures made { IfOk result (λ key. key ≡ record { algorithm = algorithm.now; bytes = key_bytes.now }) }
+    /// ```
+    ///
+    /// </details>
+    pub fn new(algorithm: &'static Algorithm, key_bytes: &[u8]) -> Result<Self, Unspecified> {
+        let bytes = match algorithm.key_bytes(key_bytes)? {
+            KeyBytes::AES_128(bytes) => UnboundBytes::AES_128(*bytes),
+            KeyBytes::AES_256(bytes) => UnboundBytes::AES_256(*bytes),
+        };
+        Ok(UnboundKey { algorithm, bytes })
+    }
+
+    /// Returns the algorithm of the key.
+    ///
+    /// <details><summary>Contract</summary>
+    ///
+    /// ```text
+    /// ensures { result.now ≡ self.now.algorithm }
+    /// ```
+    ///
+    /// </details>
+    pub fn algorithm(&self) -> &'static Algorithm {
+        self.algorithm
+    }
+
+    /// Returns the bytes of the key.
+    pub(crate) fn key_bytes(&self) -> KeyBytes<'_> {
+        match &self.bytes {
+            UnboundBytes::AES_128(bytes) => KeyBytes::AES_128(bytes),
+            UnboundBytes::AES_256(bytes) => KeyBytes::AES_256(bytes),
+        }
+    }
+}
+
+impl fmt::Debug for UnboundKey {
+    fn fmt(&self, f: &mut fmt::Formatter<'_>) -> fmt::Result {
+        let algorithm = self.algorithm();
+        write!(f, "UnboundKey {{ algorithm: {algorithm:?} }}")
+    }
+}

@@ -1,0 +1,88 @@
+//! The nonce sequence of TLS 1.3 and QUIC: an IV XORed with a counter.
+
+use crate::aead::{NONCE_LEN, Nonce, NonceSequence, Unspecified};
+use aead_ciphers_base::bb;
+
+/// A sequence of 12-byte nonces: an IV of 12 bytes, XORed with a number, which counts up. The number is in 8 big-endian
+/// bytes after four zero bytes (RFC 8446 section 5.3: the sequence number of a record; RFC 9001 section 5.3: the number
+/// of a packet). It cannot be cloned. ring has no such type.
+///
+/// # Examples
+///
+/// The nonces of RFC 9001 appendix A.5. From `crates/aead_ciphers_tests/src/tests/sequences.rt`:
+///
+/// ```
+/// fn rfc_9001_a_5_nonce(rt: HostRuntime) -> Result<(), Fail> {
+///     let nonce = nonce_of(&IV, NUMBER);
+///     same(&rt, nonce.as_ref(), &NONCE, "of the number");
+///     let mut sequence = XoredSequence::new(IV, NUMBER, NUMBER + 2)?;
+///     gives(&rt, &mut sequence, Some(&NONCE));
+///     gives(&rt, &mut sequence, Some(&NEXT_NONCE));
+///     gives(&rt, &mut sequence, None);
+///     gives(&rt, &mut sequence, None);
+///     Ok(())
+/// }
+/// ```
+pub struct XoredSequence {
+    iv: [u8; NONCE_LEN],
+    first: u64,
+    count: u64,
+    used: u64,
+}
+
+impl XoredSequence {
+    /// Creates a sequence of the nonces whose numbers count up from `first` and are less than `limit`. None of them is
+    /// used yet.
+    ///
+    /// # Errors
+    ///
+    /// Fails with `Unspecified` if `first` is greater than `limit`.
+    ///
+    /// <details><summary>Contract</summary>
+    ///
+    /// ```text
+    /// ensures accepted { IsOk result ↔ (first ≤ limit) }
+    /// ensures made { IfOk result (λ sequence. sequence ≡ record { fixed = iv; first = first; count = limit - first; used = 0 }) }
+    /// ```
+    ///
+    /// </details>
+    pub fn new(iv: [u8; NONCE_LEN], first: u64, limit: u64) -> Result<Self, Unspecified> {
+        if first > limit {
+            return Err(Unspecified);
+        }
+        Ok(XoredSequence {
+            iv,
+            first,
+            count: limit - first,
+            used: 0,
+        })
+    }
+}
+
+/// Returns the nonce of `number` under `iv` (RFC 9001 section 5.3), for a receiver that reads the number from a packet.
+/// ring has no such function.
+///
+/// <details><summary>Contract</summary>
+///
+/// ```text
+/// ensures { result ≡ xored_nonce iv.now number }
+/// ```
+///
+/// </details>
+pub fn nonce_of(iv: &[u8; NONCE_LEN], number: u64) -> Nonce {
+    let mut bytes = [0; NONCE_LEN];
+    bytes[4..].copy_from_slice(&number.to_be_bytes());
+    bb::xor_assign_at_start(&mut bytes, iv);
+    Nonce::assume_unique_for_key(bytes)
+}
+
+impl NonceSequence for XoredSequence {
+    fn advance(&mut self) -> Result<Nonce, Unspecified> {
+        if self.used >= self.count {
+            return Err(Unspecified);
+        }
+        let nonce = nonce_of(&self.iv, self.first + self.used);
+        self.used += 1;
+        Ok(nonce)
+    }
+}

@@ -1,0 +1,136 @@
+//! Lists of jobs that are run, in order, with a sealing and an opening key.
+
+use crate::aead::generic::{OpeningKey, SealingKey};
+use crate::aead::{Aad, NonceSequence};
+use crate::aes_gcm::GcmKey;
+
+/// What a job does.
+use alloc::vec::Vec;
+
+#[derive(Clone, Copy, PartialEq, Eq, Debug)]
+pub enum Operation {
+    /// Encrypt the buffer and append the tag.
+    Seal,
+    /// Open the buffer from this byte on. Its last 16 bytes are the tag.
+    Open(usize),
+}
+
+/// The outcome of a job.
+#[derive(Clone, Copy, PartialEq, Eq, Debug)]
+pub enum Outcome {
+    /// The buffer holds the ciphertext followed by the tag.
+    Sealed,
+    /// The buffer begins with the plaintext, which has this length in bytes.
+    Opened(usize),
+    /// The call failed, and the buffer is unchanged.
+    Refused,
+}
+
+/// One call with a key, and its outcome.
+pub struct Job {
+    /// What the job does.
+    pub operation: Operation,
+    /// The additional authenticated data.
+    pub aad: Vec<u8>,
+    /// The buffer that is sealed or opened in place.
+    pub buffer: Vec<u8>,
+    /// The outcome, once the job has been run.
+    pub outcome: Outcome,
+}
+
+impl Job {
+    /// Creates a job that has not been run yet. Its outcome is `Refused`.
+    ///
+    /// <details><summary>Contract</summary>
+    ///
+    /// ```text
+    /// ensures { result ≡ record { operation = operation; aad = aad; buffer = buffer; outcome = Outcome.Refused; } }
+    /// ```
+    ///
+    /// </details>
+    pub fn new(operation: Operation, aad: Vec<u8>, buffer: Vec<u8>) -> Self {
+        Job {
+            operation,
+            aad,
+            buffer,
+            outcome: Outcome::Refused,
+        }
+    }
+
+    fn perform<K: GcmKey, L: GcmKey, S: NonceSequence, O: NonceSequence>(
+        &mut self,
+        sealing: &mut SealingKey<K, S>,
+        opening: &mut OpeningKey<L, O>,
+    ) {
+        let aad = Aad::from(self.aad.as_slice());
+        self.outcome = match self.operation {
+            Operation::Seal => match sealing.seal_in_place_append_tag(aad, &mut self.buffer) {
+                Ok(()) => Outcome::Sealed,
+                Err(_) => Outcome::Refused,
+            },
+            Operation::Open(start) => {
+                match opening.open_within_to_front(aad, self.buffer.as_mut_slice(), start..) {
+                    Ok(count) => Outcome::Opened(count),
+                    Err(_) => Outcome::Refused,
+                }
+            }
+        };
+    }
+}
+
+/// Runs the jobs in order: `Seal` jobs with the sealing key, `Open` jobs with the opening key. The outcome of each job
+/// is overwritten. A sealing job may allocate memory for its tag.
+///
+/// # Examples
+///
+/// Two of five jobs succeed, since the sealing key has two nonces, whatever its expanded key is.
+/// From `crates/aead_ciphers_wide_tests/src/tests/session.rt`:
+///
+/// ```
+/// fn twice<K: GcmKey>(rt: &impl Abort, alloc: Global, case: &Case) -> Result<(), Fail> {
+///     let mut jobs = five_jobs(alloc)?;
+///     run(
+///         &mut sealing::<K>(case, 2)?,
+///         &mut opening::<K>(case, 0)?,
+///         &mut jobs,
+///     );
+///     sealed_so_many(rt, &jobs, 2);
+///     Ok(())
+/// }
+/// ```
+///
+/// A caller that runs two lists states that no nonce of either is used twice.
+/// From `crates/aead_ciphers_wide_tests/src/tests/examples/session.rt`:
+///
+/// ```
+/// pub fn run_both<K: GcmKey, L: GcmKey, S: NonceSequence, O: NonceSequence>(
+///     sealing: &mut SealingKey<K, S>,
+///     opening: &mut OpeningKey<L, O>,
+///     first: &mut [Job],
+///     second: &mut [Job],
+/// )
+///     ensures no_nonce_twice { GrewFresh (S.spent sealing.old.sequence) (S.spent sealing.new.sequence) }
+/// {
+///     run(sealing, opening, first);
+///     run(sealing, opening, second);
+/// }
+/// ```
+///
+/// <details><summary>Contract</summary>
+///
+/// ```text
+/// ensures ran { Runs (JobStep S.spent S.is_closed S.origin O.spent O.is_closed O.origin) (sealing.old, opening.old) (sealing.new, opening.new) jobs.old jobs.new }
+/// ensures capacity_kept { AllZip (λ old new. old.operation ≢ Operation.Seal → vec_capacity new.buffer ≡ vec_capacity old.buffer) jobs.old jobs.new }
+/// ensures no_nonce_twice { GrewFresh (S.spent sealing.old.sequence) (S.spent sealing.new.sequence) }
+/// ```
+///
+/// </details>
+pub fn run<K: GcmKey, L: GcmKey, S: NonceSequence, O: NonceSequence>(
+    sealing: &mut SealingKey<K, S>,
+    opening: &mut OpeningKey<L, O>,
+    jobs: &mut [Job],
+) {
+    for job in jobs.iter_mut() {
+        job.perform(sealing, opening);
+    }
+}

@@ -1,0 +1,76 @@
+//! The trait `Plane`, of words that have one bit of each byte of some blocks.
+
+use core::ops::{BitAnd, BitXor};
+
+/// A word that has one bit of each byte of some blocks.
+pub trait Plane: Copy + BitXor<Self, Output = Self> + BitAnd<Self, Output = Self> {
+    /// Returns the word all of whose bits are one.
+    ///
+    /// <details><summary>Contract</summary>
+    ///
+    /// ```text
+    /// ensures { (p : ℕ) → p < width → bit_at (number result) p ≡ 1 }
+    /// ```
+    ///
+    /// </details>
+    fn ones() -> Self;
+
+    /// Shifts the rows of each block (FIPS 197 section 5.1.2).
+    ///
+    /// <details><summary>Contract</summary>
+    ///
+    /// ```text
+    /// ensures { Moves place (width / 16) shifted_from (number self) (number result) }
+    /// ```
+    ///
+    /// </details>
+    fn rows_shifted(self) -> Self;
+
+    /// Moves the bit of each row up by one row, cyclically.
+    ///
+    /// <details><summary>Contract</summary>
+    ///
+    /// ```text
+    /// ensures { Moves place (width / 16) (below 1) (number self) (number result) }
+    /// ```
+    ///
+    /// </details>
+    fn one_below(self) -> Self;
+
+    /// Moves the bit of each row up by two rows, cyclically.
+    ///
+    /// <details><summary>Contract</summary>
+    ///
+    /// ```text
+    /// ensures { Moves place (width / 16) (below 2) (number self) (number result) }
+    /// ```
+    ///
+    /// </details>
+    fn two_below(self) -> Self;
+}
+
+impl Plane for u64 {
+    #[inline(always)]
+    fn ones() -> u64 {
+        u64::MAX
+    }
+
+    /// Shifts rows 2 and 3 by two columns of four bits, with a delta swap, and then rows 1 and 3 by one.
+    #[inline(always)]
+    fn rows_shifted(self) -> u64 {
+        let delta = ((self >> 8) ^ self) & 0x00cc_00cc_00cc_00cc;
+        let by_two = self ^ delta ^ (delta << 8);
+        (by_two & 0x5555_5555_5555_5555)
+            ^ (((by_two >> 4) & 0x0aaa_0aaa_0aaa_0aaa) ^ ((by_two << 12) & 0xa000_a000_a000_a000))
+    }
+
+    #[inline(always)]
+    fn one_below(self) -> u64 {
+        ((self >> 1) & 0x7777_7777_7777_7777) ^ ((self << 3) & 0x8888_8888_8888_8888)
+    }
+
+    #[inline(always)]
+    fn two_below(self) -> u64 {
+        ((self >> 2) & 0x3333_3333_3333_3333) ^ ((self << 2) & 0xcccc_cccc_cccc_cccc)
+    }
+}

@@ -1,0 +1,86 @@
+//! The steps of an AES round on planes (FIPS 197 section 5.1), except SubBytes.
+
+use super::plane::Plane;
+
+/// Multiplies each byte by {02}, the polynomial x (FIPS 197 section 4.2).
+#[inline(always)]
+fn times_x<P: Plane>(a: [P; 8]) -> [P; 8] {
+    let [a0, a1, a2, a3, a4, a5, a6, top] = a;
+    [top, a0 ^ top, a1, a2 ^ top, a3 ^ top, a4, a5, a6]
+}
+
+#[inline(always)]
+fn planes_one_below<P: Plane>(a: [P; 8]) -> [P; 8] {
+    let mut out = [a[0]; 8];
+    for k in 0..8 {
+        out[k] = a[k].one_below();
+    }
+    out
+}
+
+#[inline(always)]
+fn planes_two_below<P: Plane>(a: [P; 8]) -> [P; 8] {
+    let mut out = [a[0]; 8];
+    for k in 0..8 {
+        out[k] = a[k].two_below();
+    }
+    out
+}
+
+#[inline(always)]
+fn add_planes<P: Plane>(a: [P; 8], b: [P; 8]) -> [P; 8] {
+    let mut out = [a[0]; 8];
+    for k in 0..8 {
+        out[k] = a[k] ^ b[k];
+    }
+    out
+}
+
+/// Applies ShiftRows (FIPS 197 section 5.1.2) to each block.
+///
+/// <details><summary>Contract</summary>
+///
+/// ```text
+/// ensures { (k : ℕ) → k < P.width / 16 → block_at P.place (map P.number result) k ≡ shift_rows (block_at P.place (map P.number a) k) }
+/// ```
+///
+/// </details>
+#[inline(always)]
+pub fn shift_rows<P: Plane>(a: [P; 8]) -> [P; 8] {
+    let mut out = [a[0]; 8];
+    for k in 0..8 {
+        out[k] = a[k].rows_shifted();
+    }
+    out
+}
+
+/// Applies MixColumns (FIPS 197 section 5.1.3) to each block.
+///
+/// <details><summary>Contract</summary>
+///
+/// ```text
+/// ensures { (k : ℕ) → k < P.width / 16 → block_at P.place (map P.number result) k ≡ mix_columns (block_at P.place (map P.number a) k) }
+/// ```
+///
+/// </details>
+#[inline(always)]
+pub fn mix_columns<P: Plane>(a: [P; 8]) -> [P; 8] {
+    let b = planes_one_below(a);
+    let sum = add_planes(a, b);
+    let doubled = add_planes(times_x(sum), b);
+    add_planes(doubled, planes_two_below(sum))
+}
+
+/// Applies AddRoundKey (FIPS 197 section 5.1.4) to each block.
+///
+/// <details><summary>Contract</summary>
+///
+/// ```text
+/// ensures { (k : ℕ) → k < P.width / 16 → (w : List (List ℕ)) (j : ℕ) → HoldsRound P.place k w j (map P.number round_key) → block_at P.place (map P.number result) k ≡ add_round_key w j (block_at P.place (map P.number a) k) }
+/// ```
+///
+/// </details>
+#[inline(always)]
+pub fn add_round_key<P: Plane>(a: [P; 8], round_key: [P; 8]) -> [P; 8] {
+    add_planes(a, round_key)
+}

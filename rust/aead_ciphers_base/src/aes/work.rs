@@ -1,0 +1,116 @@
+//! Tallies of cipher blocks and field products, so that a contract can say how much a call computes.
+
+/// Two 64-bit tallies: of cipher blocks whose output was used, and of field products (SP 800-38D
+/// section 6.3).
+///
+/// A call that counts requires that the sums fit in 64 bits. `has_room` suffices for one seal or open.
+pub struct Work {
+    blocks: u64,
+    products: u64,
+}
+
+impl Work {
+    /// Creates two tallies of zero.
+    ///
+    /// <details><summary>Contract</summary>
+    ///
+    /// ```text
+    /// ensures { result ≡ record { blocks = 0; products = 0 } }
+    /// ```
+    ///
+    /// </details>
+    #[inline(always)]
+    pub fn new() -> Self {
+        Work {
+            blocks: 0,
+            products: 0,
+        }
+    }
+
+    /// Returns the number of cipher blocks that were counted.
+    ///
+    /// <details><summary>Contract</summary>
+    ///
+    /// ```text
+    /// ensures { result ≡ self.now.blocks }
+    /// ```
+    ///
+    /// </details>
+    #[inline(always)]
+    pub fn blocks(&self) -> u64 {
+        self.blocks
+    }
+
+    /// Returns the number of field products that were counted.
+    ///
+    /// <details><summary>Contract</summary>
+    ///
+    /// ```text
+    /// ensures { result ≡ self.now.products }
+    /// ```
+    ///
+    /// </details>
+    #[inline(always)]
+    pub fn products(&self) -> u64 {
+        self.products
+    }
+
+    /// Returns `true` if both tallies are at most 2^62.
+    ///
+    /// <details><summary>Contract</summary>
+    ///
+    /// ```text
+    /// ensures { IsTrue result ↔ HasRoom self.now }
+    /// ```
+    ///
+    /// </details>
+    #[inline(always)]
+    pub fn has_room(&self) -> bool {
+        self.blocks <= 1 << 62 && self.products <= 1 << 62
+    }
+
+    /// Counts one field product.
+    ///
+    /// <details><summary>Contract</summary>
+    ///
+    /// ```text
+    /// requires { CanAdd self.old 0 1 }
+    /// ensures { Adds self.old self.new 0 1 }
+    /// ```
+    ///
+    /// </details>
+    #[inline(always)]
+    pub fn add_product(&mut self) {
+        self.products += 1;
+    }
+
+    /// Counts one cipher block.
+    ///
+    /// <details><summary>Contract</summary>
+    ///
+    /// ```text
+    /// requires { CanAdd self.old 1 0 }
+    /// ensures { Adds self.old self.new 1 0 }
+    /// ```
+    ///
+    /// </details>
+    #[inline(always)]
+    pub fn add_block(&mut self) {
+        self.blocks += 1;
+    }
+
+    /// Counts `count` cipher blocks.
+    ///
+    /// <details><summary>Contract</summary>
+    ///
+    /// ```text
+    /// requires { CanAdd self.old count 0 }
+    /// ensures { Adds self.old self.new count 0 }
+    /// ```
+    ///
+    /// </details>
+    #[inline(always)]
+    pub fn add_blocks(&mut self, count: u64) {
+        self.blocks += count;
+    }
+}

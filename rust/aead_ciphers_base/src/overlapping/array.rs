@@ -1,0 +1,86 @@
+//! Overlapping buffers whose input has a fixed number of items.
+
+use super::Overlapping;
+use crate::error::LenMismatchError;
+
+/// An overlapping buffer whose input has exactly `N` items. `N` is not zero.
+pub struct Array<'o, T, const N: usize> {
+    /// The whole buffer.
+    pub in_out: Overlapping<'o, T>,
+}
+
+impl<'o, T, const N: usize> Array<'o, T, N> {
+    /// Creates an `Array` from a buffer whose input has `N` items.
+    ///
+    /// Fails with a `LenMismatchError` of `N` if `N` is zero or the input has another length. The slice
+    /// is then unchanged.
+    ///
+    /// <details><summary>Contract</summary>
+    ///
+    /// ```text
+    /// ensures* kept { sem 𝓛 (KeptIfErr T.row in_out.entry.in_out (λ a. a.in_out.in_out.ghost_name) result) }
+    /// ensures accepted { IsOk result ↔ ((0 < N) × (input_len in_out.entry ≡ N)) }
+    /// ensures same_reference { IfOk result (λ a. a.in_out.in_out.ghost_name ≡ in_out.entry.in_out.ghost_name) }
+    /// ensures items { IfOk result (λ a. a.in_out.in_out.now ≡ in_out.entry.in_out.now) }
+    /// ensures start { IfOk result (λ a. a.in_out.start ≡ in_out.entry.start) }
+    /// ensures refused { IfErr result (λ e. e ≡ N) }
+    /// ```
+    ///
+    /// </details>
+    #[inline(always)]
+    pub fn new(in_out: Overlapping<'o, T>) -> Result<Self, LenMismatchError> {
+        let len = in_out.in_out.len() - in_out.start;
+        if (N == 0) | (len != N) {
+            return Err(LenMismatchError::new(N));
+        }
+        Ok(Array { in_out })
+    }
+
+    /// Returns the input: the slice from the start on.
+    ///
+    /// <details><summary>Contract</summary>
+    ///
+    /// ```text
+    /// ensures { result.now ≡ input_of self.now.in_out }
+    /// ```
+    ///
+    /// </details>
+    #[inline(always)]
+    pub fn input(&self) -> &[T; N] {
+        match simd::array_of::<_, N>(self.in_out.input()) {
+            Some(input) => input,
+            None => unreachable!(),
+        }
+    }
+
+    /// Consumes the buffer, and returns the first `N` items of the slice, for writing.
+    ///
+    /// <details><summary>Contract</summary>
+    ///
+    /// ```text
+    /// ensures* writes_back { sem 𝓛 (LendsOutput T.row self.entry.in_out.in_out result N) }
+    /// ensures items { result.now ≡ take N self.entry.in_out.in_out.now }
+    /// ```
+    ///
+    /// </details>
+    #[inline(always)]
+    pub fn into_unwritten_output(self) -> &'o mut [T; N] {
+        first_array::<T, N>(self.into_slice())
+    }
+
+    /// Consumes the buffer, and returns the whole slice.
+    #[inline(always)]
+    fn into_slice(self) -> &'o mut [T] {
+        let Overlapping { in_out, .. } = self.in_out;
+        in_out
+    }
+}
+
+/// Returns the first `N` items of a slice, for writing.
+#[inline(always)]
+fn first_array<T, const N: usize>(items: &mut [T]) -> &mut [T; N] {
+    match items.first_chunk_mut::<N>() {
+        Some(front) => front,
+        None => unreachable!(),
+    }
+}

@@ -1,0 +1,3 @@
+//! Views of slices that the standard library may provide one day.
+
+pub mod slice;

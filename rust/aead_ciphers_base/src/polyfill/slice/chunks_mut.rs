@@ -1,0 +1,211 @@
+//! Views of a slice as whole blocks, for writing.
+
+use super::AsChunks;
+
+/// Splits a slice after the first `count` blocks of `N` items.
+#[inline(always)]
+fn split_after_blocks<T, const N: usize>(items: &mut [T], count: usize) -> (&mut [T], &mut [T]) {
+    items.split_at_mut(count * N)
+}
+
+/// Splits a slice after as many whole blocks of `N` items as fit.
+#[inline(always)]
+fn split_after_whole_blocks<T, const N: usize>(items: &mut [T]) -> (&mut [T], &mut [T]) {
+    let count = items.len() / N;
+    split_after_blocks::<T, N>(items, count)
+}
+
+/// Splits a slice into a view of as many whole blocks of `N` items as fit, and the fewer than `N` items
+/// after them.
+///
+/// # Examples
+///
+/// `hold` asserts what the items contain. From `crates/aead_ciphers_base_tests/src/tests/chunks.rt`:
+///
+/// ```
+/// let mut items = [1, 2, 3, 4, 5, 6].map(Item);
+/// let (mut view, rest) = as_chunks_mut::<_, 2>(&mut items);
+/// holds(&rt, rest.is_empty(), "nothing after them");
+/// assert_eq!(rt; view.as_ref().len(), 3);
+/// let (before, after) = view.split_at_mut(2);
+/// hold(&rt, before.as_flattened(), &[1, 2, 3, 4]);
+/// hold(&rt, after.as_flattened(), &[5, 6]);
+/// ```
+///
+/// <details><summary>Contract</summary>
+///
+/// ```text
+/// requires { 0 < N }
+/// ensures* writes_back { sem 𝓛 (LendsInTwo T.row items.entry (result.0.items, result.1)) }
+/// ensures view { blocks N result.0.items.now ≡ blocks N items.old }
+/// ensures whole { result.0.items.now ≡ take (length items.old / N * N) items.old }
+/// ensures rest { result.1.now ≡ drop (length items.old / N * N) items.old }
+/// ensures short { length result.1.now < N }
+/// ```
+///
+/// </details>
+#[inline(always)]
+pub fn as_chunks_mut<T, const N: usize>(items: &mut [T]) -> (AsChunksMut<'_, T, N>, &mut [T]) {
+    let (whole, rest) = split_after_whole_blocks::<T, N>(items);
+    (AsChunksMut { items: whole }, rest)
+}
+
+/// A mutable view of a slice as whole blocks of `N` items.
+pub struct AsChunksMut<'a, T, const N: usize> {
+    /// The items of all blocks.
+    pub items: &'a mut [T],
+}
+
+/// Reborrows the blocks for reading.
+impl<'a, 'b, T, const N: usize> From<&'a AsChunksMut<'b, T, N>> for AsChunks<'a, T, N> {
+    #[inline(always)]
+    fn from(view: &'a AsChunksMut<'b, T, N>) -> Self {
+        AsChunks { items: view.items }
+    }
+}
+
+impl<'a, T, const N: usize> AsChunksMut<'a, T, N> {
+    /// Returns the items of all blocks.
+    ///
+    /// <details><summary>Contract</summary>
+    ///
+    /// ```text
+    /// ensures items { result.now ≡ self.now.items.now }
+    /// ensures view { result.now ≡ joined (blocks N self.now.items.now) }
+    /// ```
+    ///
+    /// </details>
+    #[inline(always)]
+    pub fn as_flattened(&self) -> &[T] {
+        self.items
+    }
+
+    /// Returns the items of all blocks, for writing.
+    ///
+    /// <details><summary>Contract</summary>
+    ///
+    /// ```text
+    /// ensures* writes_back { sem 𝓛 (LendsItems T.row N.row self.entry result) }
+    /// ensures items { result.now ≡ self.old.items.now }
+    /// ```
+    ///
+    /// </details>
+    #[inline(always)]
+    pub fn as_flattened_mut(&mut self) -> &mut [T] {
+        self.items
+    }
+
+    /// Reborrows the blocks for writing.
+    ///
+    /// <details><summary>Contract</summary>
+    ///
+    /// ```text
+    /// ensures* writes_back { sem 𝓛 (LendsItems T.row N.row self.entry result.items) }
+    /// ensures items { result.items.now ≡ self.old.items.now }
+    /// ```
+    ///
+    /// </details>
+    #[inline(always)]
+    pub fn as_mut(&mut self) -> AsChunksMut<'_, T, N> {
+        AsChunksMut {
+            items: self.as_flattened_mut(),
+        }
+    }
+
+    /// Reborrows the blocks for reading.
+    ///
+    /// <details><summary>Contract</summary>
+    ///
+    /// ```text
+    /// ensures { result.items.now ≡ self.now.items.now }
+    /// ```
+    ///
+    /// </details>
+    #[inline(always)]
+    pub fn as_ref(&self) -> AsChunks<'_, T, N> {
+        AsChunks::from(self)
+    }
+
+    /// Divides the view in two: the first `mid` blocks, and the blocks after them.
+    ///
+    /// <details><summary>Contract</summary>
+    ///
+    /// ```text
+    /// requires { mid ≤ length (blocks N self.old.items.now) }
+    /// ensures* writes_back { sem 𝓛 (LendsParts T.row N.row self.entry result.0.items result.1.items) }
+    /// ensures before { blocks N result.0.items.now ≡ take mid (blocks N self.old.items.now) }
+    /// ensures after { blocks N result.1.items.now ≡ drop mid (blocks N self.old.items.now) }
+    /// ensures front { result.0.items.now ≡ take (mid * N) self.old.items.now }
+    /// ensures back { result.1.items.now ≡ drop (mid * N) self.old.items.now }
+    /// ```
+    ///
+    /// </details>
+    #[inline(always)]
+    pub fn split_at_mut(&mut self, mid: usize) -> (AsChunksMut<'_, T, N>, AsChunksMut<'_, T, N>) {
+        let (before, after) = split_after_blocks::<T, N>(self.as_flattened_mut(), mid);
+        (AsChunksMut { items: before }, AsChunksMut { items: after })
+    }
+
+    /// Returns an iterator over views of `CHUNK_LEN` blocks each, in order. The last may have fewer.
+    ///
+    /// <details><summary>Contract</summary>
+    ///
+    /// ```text
+    /// requires some { 0 < CHUNK_LEN }
+    /// requires fits { CHUNK_LEN * N < 2 ^ 64 }
+    /// ensures* kept { sem 𝓛 (KeepsCount T.row N.row self.entry) }
+    /// ensures rest { chunks_mut_rest result.chunks ≡ self.old.items.now }
+    /// ensures size { 0 < N → chunks_mut_size result.chunks ≡ CHUNK_LEN * N }
+    /// ```
+    ///
+    /// </details>
+    #[inline(always)]
+    pub fn chunks_mut<const CHUNK_LEN: usize>(&mut self) -> AsChunksMutChunksMutIter<'_, T, N> {
+        chunks_of_blocks::<T, N, CHUNK_LEN>(self.as_flattened_mut())
+    }
+}
+
+/// Returns an iterator over views of `CHUNK_LEN` blocks each of a slice of whole blocks, in order.
+#[inline(always)]
+fn chunks_of_blocks<T, const N: usize, const CHUNK_LEN: usize>(
+    items: &mut [T],
+) -> AsChunksMutChunksMutIter<'_, T, N> {
+    // At least 1, since std's `chunks_mut` takes no size of 0, and `N` may be zero.
+    let size = (CHUNK_LEN * N).max(1);
+    AsChunksMutChunksMutIter {
+        chunks: items.chunks_mut(size),
+    }
+}
+
+/// The iterator that `AsChunksMut::chunks_mut` returns.
+pub struct AsChunksMutChunksMutIter<'a, T, const N: usize> {
+    /// The remaining items, in chunks of whole blocks.
+    pub chunks: core::slice::ChunksMut<'a, T>,
+}
+
+impl<'a, T, const N: usize> Iterator for AsChunksMutChunksMutIter<'a, T, N> {
+    type Item = AsChunksMut<'a, T, N>;
+
+    /// <details><summary>Contract</summary>
+    ///
+    /// ```text
+    /// ensures lower { IsWithinCount result.0 (at_most (parts_left self.now.chunks)) }
+    /// ensures upper { IfSome result.1 (UpTo (at_most (parts_left self.now.chunks))) }
+    /// ensures exact { let count = parts_left self.now.chunks in result ≡ (count, Some count) }
+    /// ```
+    ///
+    /// </details>
+    #[inline(always)]
+    fn size_hint(&self) -> (usize, Option<usize>) {
+        let count = self.chunks.len();
+        (count, Some(count))
+    }
+
+    #[inline(always)]
+    fn next(&mut self) -> Option<AsChunksMut<'a, T, N>> {
+        match self.chunks.next() {
+            Some(items) => Some(AsChunksMut { items }),
+            None => None,
+        }
+    }
+}

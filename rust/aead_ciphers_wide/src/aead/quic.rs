@@ -1,0 +1,74 @@
+//! Header protection keys of QUIC (RFC 9001 section 5.4), whose AES encrypts the sample by byte permutes.
+
+use crate::aes;
+use aead_ciphers::aead::quic::{Algorithm, CHACHA20};
+use aead_ciphers_base::aes::KeyBytes;
+use aead_ciphers_base::chacha;
+use aead_ciphers_base::error::Unspecified;
+
+/// A header protection key with its algorithm.
+pub struct HeaderProtectionKey {
+    cipher: Cipher,
+}
+
+/// The cipher of a mask, with its key.
+enum Cipher {
+    Aes(aes::BlockKey),
+    ChaCha20(chacha::Key),
+}
+
+impl HeaderProtectionKey {
+    /// Creates a key for `algorithm` from `key_bytes`, and expands it.
+    ///
+    /// # Errors
+    ///
+    /// Fails with `Unspecified` if `key_bytes` is not `algorithm.key_len()` bytes long.
+    ///
+    /// <details><summary>Contract</summary>
+    ///
+    /// ```text
+    /// ensures accepted { IsOk result ↔ (length key_bytes.now ≡ key_len algorithm.now) }
+    /// ensures algorithm { IfOk result (λ key. key.algorithm ≡ algorithm.now) }
+    /// ensures bytes { IfOk result (λ key. key.bytes ≡ key_bytes.now) }
+    /// ```
+    ///
+    /// </details>
+    #[inline(always)]
+    pub fn new(algorithm: &Algorithm, key_bytes: &[u8]) -> Result<Self, Unspecified> {
+        if key_bytes.len() != algorithm.key_len() {
+            return Err(Unspecified);
+        }
+        let cipher = if *algorithm == CHACHA20 {
+            let bytes = simd::array_of(key_bytes).ok_or(Unspecified)?;
+            Cipher::ChaCha20(chacha::Key::new(*bytes))
+        } else {
+            Cipher::Aes(aes::BlockKey::new(KeyBytes::from_slice(key_bytes)?))
+        };
+        Ok(HeaderProtectionKey { cipher })
+    }
+
+    /// Returns the 5-byte mask of a 16-byte sample (RFC 9001 section 5.4.1).
+    ///
+    /// # Errors
+    ///
+    /// Fails with `Unspecified` if `sample` is not 16 bytes long.
+    ///
+    /// <details><summary>Contract</summary>
+    ///
+    /// ```text
+    /// ensures accepted { IsOk result ↔ (length sample.now ≡ 16) }
+    /// ensures mask { IfOk result (λ mask. mask ≡ header_protection self.now.algorithm self.now.bytes sample.now) }
+    /// ```
+    ///
+    /// </details>
+    #[inline(always)]
+    pub fn new_mask(&self, sample: &[u8]) -> Result<[u8; 5], Unspecified> {
+        let Some(sample) = simd::array_of::<_, 16>(sample) else {
+            return Err(Unspecified);
+        };
+        Ok(match &self.cipher {
+            Cipher::Aes(key) => key.new_mask(*sample),
+            Cipher::ChaCha20(key) => key.new_mask(*sample),
+        })
+    }
+}

@@ -1,0 +1,9 @@
+//! `look_up`, a byte permute: it replaces each byte of a vector by the byte of a table of 16 bytes to which it points.
+
+use simd::u8x16;
+
+/// Returns the bytes of `table` at `places`, and 0 for each place from 128 on. No memory is read at a place.
+#[inline(always)]
+pub(crate) fn look_up<V: simd::Level>(table: [u8; 16], places: u8x16<V>) -> u8x16<V> {
+    u8x16::<V>::from_array(table).swizzle_dyn(places)
+}

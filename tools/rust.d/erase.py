@@ -1,0 +1,385 @@
+"""A source of Rattle as Rust: what is deleted, what is left out, and the texts that are replaced."""
+
+import collections
+import re
+
+import contracts
+import lists
+from items import CLAUSES, clause_end, function, items, text_of_function
+from tokens import OPEN, TRIVIA, Fault, group_end, last_of, made, next_of, parts, text_of, tokens, words_of
+
+
+class Source:
+    """A source file, while it is written as Rust."""
+
+    def __init__(self, crate, path, text):
+        self.crate, self.path = crate, path
+        self.tokens = tokens(text)
+        self.counts = collections.Counter()
+        self.used = set()
+        # What comes after the items, such as the jobs of entries.
+        self.after = []
+
+    def fault(self, line, why):
+        return Fault(f"crates/{self.crate}/src/{self.path.split('/', 1)[1]}:{line}: {why}")
+
+    def count(self, name):
+        assert name in lists.DELETED, name
+        self.counts[name] += 1
+
+
+def kept_lead(lead):
+    """Returns what stays of the comments before an item that is deleted: those of the file, and those with a blank line after
+    them, which speak of what follows."""
+    end = max((at + 1 for at, token in enumerate(lead) if token.text.startswith("//!")), default=0)
+    for at, token in enumerate(lead):
+        if at >= end and token.kind == "space" and token.text.count("\n") > 1 and any(it.kind == "comment" for it in lead[end:at]):
+            end = at + 1
+    return lead[:end]
+
+
+def attributes(source, lead):
+    """Returns the comments and attributes before an item, without tactics and without `Drop`."""
+    kept, at = [], 0
+    while at < len(lead):
+        if lead[at].text != "#":
+            kept.append(lead[at])
+            at += 1
+            continue
+        end = group_end(lead, at + 1)
+        written = attribute(source, lead[at:end])
+        kept += written
+        # Without the attribute, its line is none.
+        at = end if written else end + (end < len(lead) and lead[end].kind == "space")
+    return kept
+
+
+def attribute(source, tokens):
+    name, line = tokens[2].text, tokens[0].line
+    if name == "tactic":
+        source.count("tactic")
+        return []
+    if name == "derive":
+        derived = [text_of(part).strip() for part in parts(tokens[4:-2])]
+        if "Drop" in derived:
+            source.count("derived Drop")
+        derived = [it for it in derived if it not in ("Drop", "Error")]
+        return made(f"#[derive({', '.join(derived)})]", line) if derived else []
+    if name == "inline":
+        return tokens
+    if name in ("repr", "must_use"):
+        return tokens
+    raise source.fault(line, f"the attribute `{name}` is in no list")
+
+
+def without_bounds(source, tokens):
+    """Returns generics or the head of a trait without `Drop` as a bound."""
+    text, count = re.subn(r"\s*\+ Drop\b|\bDrop \+ |: Drop\b", "", text_of(tokens))
+    source.counts["Drop bound"] += count
+    return made(text, tokens[0].line if tokens else 0)
+
+
+def where_bounds(source, tokens):
+    """Returns a `where` without `Drop` as a bound, or nothing if no bound is left."""
+    kept = [text_of(without_bounds(source, part)) for part in parts(tokens[1:])]
+    kept = [part for part in kept if ":" in part]
+    return made(f"where {','.join(kept)}", tokens[0].line) if kept else []
+
+
+def fields(source, body):
+    """Returns the fields of a struct without those that are ghosts."""
+    kept = []
+    for part in parts(body[1:-1]):
+        words = [token.text for token in part if token.kind == "word"]
+        if words[:1] == ["ghost"] or words[:2] == ["pub", "ghost"]:
+            source.count("ghost field")
+        else:
+            kept.append(text_of(part))
+    return made("{" + ",".join(kept) + ("," if kept else "") + "\n}", body[0].line)
+
+
+def replaced(source, tokens):
+    """Returns the tokens with each text of `REPLACED` replaced that is for this file or for all."""
+    for number, it in enumerate(lists.REPLACED):
+        if it.file in ("*", source.path):
+            tokens, count = replaced_text(tokens, it.old, it.new)
+            if count:
+                source.used.add(number)
+            if it.file != "*" and count > 1:
+                raise source.fault(0, f"`{it.old}` stands more than once")
+    return arrays(tokens)
+
+
+def replaced_text(tokens, old, new):
+    wanted = [token.text for token in made(old) if token.kind not in TRIVIA]
+    found, at, count = [], 0, 0
+    while at < len(tokens):
+        end = matched(tokens, at, wanted)
+        if end:
+            found += made(new, tokens[at].line)
+            count += 1
+            at = end
+        else:
+            found.append(tokens[at])
+            at += 1
+    return found, count
+
+
+def matched(tokens, at, wanted):
+    """Returns the index after the wanted texts, if they stand from `at` on."""
+    if tokens[at].text != wanted[0]:
+        return None
+    for text in wanted:
+        at = next_of(tokens, at)
+        if at == len(tokens) or tokens[at].text != text:
+            return None
+        at += 1
+    return at
+
+
+def receiver_start(tokens, at):
+    """Returns the index at which the expression begins whose method is called by the dot at `at`."""
+    start, at = at, last_of(tokens, at - 1)
+    while True:
+        if tokens[at].text in (")", "]"):
+            depth = 0
+            while True:
+                depth += (tokens[at].text in ")]}") - (tokens[at].text in OPEN)
+                if depth == 0:
+                    break
+                at -= 1
+        start = at
+        before = last_of(tokens, at - 1)
+        if tokens[at].text in ("(", "[") and tokens[before].kind == "word":
+            at = before
+        elif tokens[before].text in (".", "::"):
+            at = last_of(tokens, before - 1)
+        else:
+            return start
+
+
+def arrays(tokens):
+    """Returns the tokens with `X.as_array::<N>()`, which Rust 1.85 doesn't have, as a call of `simd`."""
+    names = {"as_array": "array_of", "as_mut_array": "array_of_mut"}
+    found = next((at for at, token in enumerate(tokens) if token.text in names and tokens[at - 1].text == "."), None)
+    if found is None:
+        return tokens
+    at = found + 1
+    generics = ""
+    if tokens[at].text == "::":
+        generics = f"::<_, {tokens[at + 2].text}>"
+        at += 4
+    start = receiver_start(tokens, found - 1)
+    call = made(f"simd::{names[tokens[found].text]}{generics}({text_of(tokens[start : found - 1])})", tokens[start].line)
+    return arrays(tokens[:start] + call + tokens[group_end(tokens, at) :])
+
+
+def executed(source, body):
+    """Returns a body without the calls of laws and without the clauses of closures."""
+    names = {name for path, name in lists.LAWS if path.split("/")[0] == source.crate}
+    kept, at = [], 0
+    while at < len(body):
+        if body[at].text in names and body[at + 1].text == "(":
+            source.count("law")
+            at = group_end(body, at + 1) + 1
+        elif body[at].text in CLAUSES and body[at].kind == "word":
+            source.count("clause")
+            at = next_of(body, clause_end(body, at)[1])
+        else:
+            kept.append(body[at])
+            at += 1
+    return kept
+
+
+def parameter_name(parameter):
+    names = [token.text for token in parameter if token.kind == "word" and token.text not in ("mut", "ref")]
+    return names[0]
+
+
+def parameters(source, it):
+    """Returns the parameters of a function, with an underscore before those that clauses alone read."""
+    kept = []
+    for parameter in parts(it.parameters):
+        name = parameter_name(parameter)
+        if it.body[0].text == "{" and name != "self":
+            key = (source.path, it.name, name)
+            is_read = name in words_of(it.body)
+            if is_read == (key in lists.UNDERSCORED):
+                raise source.fault(it.before[-1].line, f"the parameter `{name}` of `{it.name}` is {'read' if is_read else 'not read'}")
+            if not is_read:
+                source.used.add(key)
+                first = next(at for at, token in enumerate(parameter) if token.text == name)
+                parameter = [*parameter[:first], *made("_" + name), *parameter[first + 1 :]]
+        kept.append(text_of(parameter))
+    return made(",".join(kept), it.before[-1].line)
+
+
+def has_attribute(lead, name):
+    return any(lead[at].text == "#" and lead[at + 2].text == name for at in range(len(lead) - 2))
+
+
+def is_inlined(path):
+    return any(path.startswith(file) for file in lists.INLINED)
+
+
+def inlined(source, item):
+    """Returns what is before a function that jobs reach, with `#[inline(always)]`."""
+    lead = attributes(source, item.lead)
+    if item.tokens[-1].text == ";" or not is_inlined(source.path):
+        return lead
+    text = re.sub(r"#\[inline\(\w+\)\]\s*", "", text_of(lead))
+    return made(text.rstrip(" ") + "#[inline(always)]\n", item.line)
+
+
+def head_of(item):
+    """Returns what names an item in the lists."""
+    return text_of(item.tokens[: item.body_start()]).strip() if item.kind == "impl" else f"{item.kind} {item.name}"
+
+
+def before_item(text, added):
+    """Returns the text of an item with a line before it, after its comments."""
+    lines = text.splitlines(keepends=True)
+    at = next(at for at, line in enumerate(lines) if line.strip() and not line.lstrip().startswith("//"))
+    return "".join([*lines[:at], added + "\n", *lines[at:]])
+
+
+class Writer:
+    """Writes the items of a source as Rust."""
+
+    def __init__(self, source, leveler):
+        self.source, self.leveler = source, leveler
+
+    def file(self):
+        found, rest = items(self.source.tokens)
+        return self.items(found, "file") + text_of(rest)
+
+    def items(self, found, place):
+        return "".join(self.item(item, place) for item in found)
+
+    def is_left_out(self, item):
+        key = (self.source.path, head_of(item))
+        if key in lists.LEFT_OUT_ITEMS:
+            self.source.used.add(key)
+            return True
+        if item.kind == "mod":
+            folder = self.source.path.removesuffix(".rt").removesuffix("/lib")
+            file = f"{folder}/{item.name}.rt"
+            return file in lists.LEFT_OUT_FILES and item.tokens[-1].text == ";"
+        return item.kind == "fn" and (key[0], item.name) in lists.LAWS
+
+    def item(self, item, place):
+        if self.is_left_out(item):
+            return text_of(kept_lead(item.lead))
+        text = getattr(self, item.kind)(item, place)
+        key = (self.source.path, head_of(item))
+        if key in lists.ADDED:
+            self.source.used.add(key)
+            text = before_item(text, lists.ADDED[key].what)
+        return text
+
+    def attribute(self, item, place):
+        if item.name != "tactic":
+            raise self.source.fault(item.line, f"the attribute `{item.name}` is in no list")
+        self.source.count("tactic")
+        return text_of(kept_lead(item.lead))
+
+    def ghost(self, item, place):
+        self.source.count("ghost import" if item.name == "use" else "ghost item")
+        return text_of(kept_lead(item.lead))
+
+    def use(self, item, place):
+        if any(token.text == "ghost" for token in item.tokens):
+            return self.ghost(item, place)
+        tokens = self.imported(item)
+        if not tokens:
+            return text_of(kept_lead(item.lead))
+        text = text_of(tokens).replace("std::simd::", "simd::")
+        return text_of(item.lead) + re.sub(r"\bstd::", "core::", text)
+
+    def imported(self, item):
+        """Returns the tokens of an import without the names that nothing uses any more, or nothing if no other is left."""
+        path = text_of([token for token in item.tokens if token.kind not in TRIVIA]).removeprefix("use").removesuffix(";")
+        if path in lists.DROPPED_IMPORTS:
+            self.source.used.add(path)
+            return []
+        brace = next((at for at, token in enumerate(item.tokens) if token.text == "{"), None)
+        names = parts(item.tokens[brace + 1 : group_end(item.tokens, brace) - 1]) if brace else [item.tokens[-2:-1]]
+        kept = [text_of(name).strip() for name in names if not self.is_dropped(text_of(name).strip())]
+        if len(kept) == len(names):
+            return item.tokens
+        return item.tokens[:brace] + made(f"{{{', '.join(kept)}}};", item.line) if kept else []
+
+    def is_dropped(self, name):
+        key = (self.source.path, name)
+        if key in lists.DROPPED_NAMES:
+            self.source.used.add(key)
+        return key in lists.DROPPED_NAMES
+
+    def plain(self, item, place):
+        return text_of(attributes(self.source, item.lead)) + text_of(self.rewritten(item.tokens))
+
+    const = static = type = plain
+
+    def mod(self, item, place):
+        if item.tokens[-1].text == ";":
+            return self.plain(item, place)
+        return self.block(item, place)
+
+    def struct(self, item, place):
+        tokens = item.tokens
+        if tokens[-1].text == "}":
+            at = item.body_start()
+            tokens = without_bounds(self.source, tokens[:at]) + fields(self.source, tokens[at:])
+        tokens = self.leveler.struct(self.source, item.name, tokens)
+        return text_of(attributes(self.source, item.lead)) + text_of(self.rewritten(tokens))
+
+    def enum(self, item, place):
+        displayed = contracts.displayed(self.source, item)
+        lead = text_of(attributes(self.source, item.lead))
+        return lead + text_of(self.rewritten(displayed.tokens)) + displayed.impls
+
+    def trait(self, item, place):
+        return self.block(item, "trait")
+
+    def impl(self, item, place):
+        at = item.body_start()
+        head = [token for token in item.tokens[:at] if token.kind not in TRIVIA]
+        if any(token.text == "Model" for token in head):
+            self.source.count("model")
+            return text_of(kept_lead(item.lead))
+        return self.block(item, "trait impl" if any(token.text == "for" for token in head) else "impl")
+
+    def block(self, item, place):
+        at = item.body_start()
+        head = without_bounds(self.source, self.rewritten(item.tokens[:at]))
+        found, rest = items(item.tokens[at + 1 : -1])
+        with self.leveler.block(self.source, head) as leveled:
+            body = self.items(found, place)
+        lead = text_of(attributes(self.source, item.lead))
+        key = (self.source.path, head_of(item), "body")
+        if key in lists.ADDED:
+            self.source.used.add(key)
+            body = f"\n{lists.ADDED[key].what}{body}"
+        return f"{lead}{text_of(leveled.head)}{{{body}{text_of(rest)}}}{leveled.after}"
+
+    def fn(self, item, place):
+        it = function(item.tokens)
+        is_entry = self.leveler.is_entry(self.source, it.name)
+        lead = text_of(attributes(self.source, item.lead) if is_entry else inlined(self.source, item))
+        for clause in it.clauses:
+            self.source.count("ghost parameter" if clause.kind == "ghost" else "clause")
+        if item.is_public or place == "trait" or place == "trait impl":
+            lead = contracts.documented(lead, it.clauses)
+        it.body = executed(self.source, it.body)
+        it.parameters = parameters(self.source, it)
+        it.generics = without_bounds(self.source, it.generics)
+        it.where = where_bounds(self.source, it.where)
+        if is_entry:
+            it.body = replaced(self.source, it.body)
+            return lead + self.leveler.entry(self.source, it)
+        it = self.leveler.function(self.source, it, place)
+        return lead + text_of(self.rewritten(made(text_of_function(it), item.line)))
+
+    def rewritten(self, tokens):
+        tokens = [token._replace(text="core") if token.text == "std" else token for token in replaced(self.source, tokens)]
+        return self.leveler.mentions(self.source, tokens)

@@ -1,0 +1,203 @@
+"""What `tools/rust` deletes, replaces, leaves out and adds, each with its reason. rust/README.md has these lists."""
+
+import typing
+
+
+class Entry(typing.NamedTuple):
+    """A construct, or a place of the sources, and why it is treated so."""
+
+    what: str
+    why: str
+
+
+class Replaced(typing.NamedTuple):
+    """A text of one file, or of each, that stands for another."""
+
+    file: str
+    old: str
+    new: str
+    why: str
+
+
+# The crates, each with those that it stands on, and whether its functions take a level of vectors.
+CRATES = {
+    "aead_ciphers_base": (),
+    "aead_ciphers": ("aead_ciphers_base",),
+    "aead_ciphers_wide": ("aead_ciphers_base", "aead_ciphers"),
+    "xaes": ("aead_ciphers_base", "aead_ciphers", "aead_ciphers_wide"),
+    "tls_messages": (),
+}
+
+# What is deleted wherever it stands. The names are those by which the program counts.
+DELETED = {
+    "clause": Entry("`requires` and `ensures`", "A contract does nothing at run time. That of a public function goes into its doc comment."),
+    "ghost item": Entry("`ghost NAME ..`, in files, traits and `impl` blocks", "It is read by the proof alone."),
+    "ghost import": Entry("`ghost use ..`", "It names what clauses and ghost items speak of."),
+    "ghost field": Entry("`ghost NAME: { .. }` in a `struct`", "It states the invariant of the struct."),
+    "ghost parameter": Entry("`ghost NAME: { .. }` among the clauses of a function", "It has no value at run time."),
+    "tactic": Entry("`#[tactic(..)]` and `#![tactic(..)]`", "It tells the prover what to try."),
+    "model": Entry("`impl Model for ..`", "It says which value the contracts see in a type."),
+    "derived Drop": Entry("`Drop` in `#[derive(..)]`", "In Rattle only a type with `Drop` may be let go. In Rust each may."),
+    "Drop bound": Entry("`Drop` as a bound", "The same."),
+    "law": Entry("a call of a function of `LAWS`", "It does nothing, and its contract is for the proof."),
+}
+
+# Functions without a body, whose contracts are laws. Each is left out, and so are its calls.
+LAWS = {
+    ("aead_ciphers_base/aes/counter.rt", "is_some_counter"): "states that each block of 16 bytes is a counter block",
+}
+
+# Files that are left out, with the line that declares them.
+LEFT_OUT_FILES = {
+    "aead_ciphers/aeadrun.rt": "the loop of the program `aeadrun`, which reads and writes by Rattle's streams",
+    "aead_ciphers/laws.rt": "functions without a body, whose contracts are laws",
+    "tls_messages/laws.rt": "functions without a body, whose contracts are laws",
+}
+
+# Items that are left out: the head of an `impl`, or the name of another item.
+LEFT_OUT_ITEMS = {
+    ("aead_ciphers/aead/in_out.rt", "impl<const CAP: usize> InOut for ArrayVec<u8, CAP>"): "The packages have no dependency, and so no `ArrayVec`.",
+    ("aead_ciphers_wide/aes.rt", "struct Key"): "An owned AES key, which the tests and the bench of Rattle alone make.",
+    ("aead_ciphers_wide/aes.rt", "impl Key"): "The same.",
+    ("aead_ciphers_wide/aes.rt", "impl EncryptBlock for Key"): "The same.",
+    ("aead_ciphers_wide/aes.rt", "impl EncryptCtr32 for Key"): "The same.",
+    ("aead_ciphers_wide/gcm.rt", "struct Key"): "An owned key of GHASH, which the tests and the bench of Rattle alone make.",
+    ("aead_ciphers_wide/gcm.rt", "impl Key"): "The same.",
+    ("aead_ciphers_wide/gcm.rt", "impl UpdateBlock for Key"): "The same.",
+    ("aead_ciphers_wide/gcm.rt", "impl UpdateBlocks for Key"): "The same.",
+}
+
+# Imports that nothing uses once the rest is deleted.
+DROPPED_IMPORTS = {
+    "std::marker::Model": "the trait of `impl Model`",
+    "std::alloc::AllocError": "the error of Rattle's `clone`",
+    "thiserror::Error": "its derive is written out",
+    "arrayvec::ArrayVec": "its `impl` is left out",
+}
+
+# Names of an import of several that nothing uses once the rest is left out.
+OF_KEY = "Only the owned key uses it, which is left out."
+DROPPED_NAMES = {
+    ("aead_ciphers_wide/aes.rt", "Counter"): OF_KEY,
+    ("aead_ciphers_wide/aes.rt", "EncryptCtr32"): OF_KEY,
+    ("aead_ciphers_wide/aes.rt", "Overlapping"): OF_KEY,
+    ("aead_ciphers_wide/aes.rt", "Unspecified"): OF_KEY,
+}
+
+# Lines that are added before an item or, for `body`, at the beginning of its block.
+ALLOC = "`Vec` is of the crate `alloc`, which a program without an allocator hasn't."
+ADDED = {
+    ("aead_ciphers_wide/aes.rt", "impl Width", "body"): Entry(
+        "/// Returns the width of the planes that are the faster on the running processor.\n"
+        "pub fn of_processor() -> Self { if simd::has_256_bits() { Width::Bits256 } else { Width::Bits128 } }\n",
+        "Keys take it, as said below.",
+    ),
+    ("aead_ciphers/lib.rt", "mod session"): Entry('#[cfg(feature = "alloc")]', ALLOC),
+    ("aead_ciphers/aead/in_out.rt", "impl InOut for Vec<u8>"): Entry('#[cfg(feature = "alloc")]', ALLOC),
+    ("aead_ciphers/aead/in_out.rt", "trait InOut"): Entry('#[cfg(feature = "alloc")]\nuse alloc::vec::Vec;\n', ALLOC),
+    ("aead_ciphers/session.rt", "enum Operation"): Entry("use alloc::vec::Vec;\n", ALLOC),
+    ("aead_ciphers_base/aes.rt", "enum KeyBytes"): Entry("#[allow(non_camel_case_types)]", "The names are ring's."),
+    ("aead_ciphers/aead/algorithm.rt", "enum AlgorithmId"): Entry("#[allow(non_camel_case_types)]", "The names are ring's."),
+    ("aead_ciphers/aead/quic.rt", "enum AlgorithmId"): Entry("#[allow(non_camel_case_types)]", "The names are ring's."),
+    ("aead_ciphers/aead/unbound_key.rt", "enum UnboundBytes"): Entry("#[allow(non_camel_case_types)]", "The names are ring's."),
+}
+
+# What stands after the first comment of each lib.rs.
+HEAD = """#![no_std]
+#![forbid(unsafe_code)]
+
+#[cfg(not(target_pointer_width = "64"))]
+compile_error!("the proofs of Deerlapse are of 64 bits in a usize");
+"""
+# The crates that need an allocator for a part.
+NEEDS_ALLOC = {"aead_ciphers": '#[cfg(feature = "alloc")]\nextern crate alloc;\n'}
+
+# Parameters that only clauses read: they get an underscore.
+UNDERSCORED = {
+    ("aead_ciphers_wide/aes/ctr32.rt", "add_keystream", "key"): "The clauses say whose keystream the blocks are.",
+    ("aead_ciphers_wide/aes/ctr32.rt", "add_keystream", "counter"): "The clauses say from which counter on.",
+}
+
+# Replacements of tokens, whatever spaces stand between them. Each must be found: once in its file or, for `*`, at least once.
+REPLACED = [
+    Replaced("*", "fn fmt<W: fmt::Write>(&self, f: &mut fmt::Formatter<W>)", "fn fmt(&self, f: &mut fmt::Formatter<'_>)", "Rust's `Formatter` has no type parameter."),
+    Replaced("*", "-> Result<Self, AllocError> {", "-> Self {", "Rust's `clone` doesn't return a `Result`."),
+    Replaced("aead_ciphers_base/polyfill/slice/chunks.rt", "-> Result<Self, std::alloc::AllocError> { Ok(*self) }", "-> Self { *self }", "The same."),
+    Replaced("aead_ciphers/aead/less_safe_key.rt", "Ok(LessSafeKey { key: self.key.clone()?, algorithm: self.algorithm, })", "LessSafeKey { key: self.key.clone(), algorithm: self.algorithm, }", "The same."),
+    Replaced("aead_ciphers/aes_gcm/key.rt", "Ok(Key { expanded: self.expanded.clone()?, })", "Key { expanded: self.expanded.clone(), }", "The same."),
+    Replaced(
+        "aead_ciphers/aead/in_out.rt",
+        "self.extend_from_slice(&[0; MAX_TAG_LEN]).map_err(|_| Unspecified)",
+        "self.try_reserve(MAX_TAG_LEN).map_err(|_| Unspecified)?; self.extend_from_slice(&[0; MAX_TAG_LEN]); Ok(())",
+        "A `Vec` of Rattle returns an error where Rust's ends the program: so the memory is reserved first.",
+    ),
+    Replaced(
+        "aead_ciphers_wide/aes_gcm.rt",
+        "self.expand_with_width(bytes, Width::Bits128, work);",
+        "self.expand_with_width(bytes, Width::of_processor(), work);",
+        "The planes are as wide as the vectors of the running processor. No clause speaks of the width.",
+    ),
+    Replaced("xaes/key.rt", "expanded.expand(bytes, Width::Bits128);", "expanded.expand(bytes, Width::of_processor());", "The same."),
+    Replaced(
+        "aead_ciphers_wide/aes/ctr32.rt",
+        "let batch_len = if self.width == PLANES_OF_256_BITS {",
+        "let batch_len = if V::HAS_256_BITS && self.width == PLANES_OF_256_BITS {",
+        "A key may have been made at another level. The compiler then leaves out the path that isn't taken at this one.",
+    ),
+    Replaced(
+        "aead_ciphers_wide/word/wider.rt",
+        "low.lanes.shuffle(high.lanes, [0, 1, 2, 3])",
+        "low.lanes.followed_by(high.lanes)",
+        "Stable Rust can't say that the result of a shuffle has as many lanes as there are numbers.",
+    ),
+]
+
+# Types of the vectors, whose operations a level chooses.
+VECTORS = {"u8x16", "u64x2", "u64x4"}
+# Types without a vector in them whose methods reach vectors: they have the level as a parameter.
+LEVELED_TYPES = {
+    "aead_ciphers_wide": {"KeyRef", "BlockKeyRef"},
+    "xaes": {"Cmac"},
+}
+# The calls that choose a level, each of which is a job of `simd`.
+ENTRIES = {
+    "aead_ciphers_wide/aes/block_key.rt": {"BlockKey": ("new", "new_mask")},
+    "aead_ciphers_wide/aes_gcm.rt": {
+        "ExpandedKey": (
+            "expand_with_width",
+            "open_within_to_front",
+            "begin",
+            "begin_with_parts",
+            "update",
+            "finish",
+            "new_mask",
+            "seal",
+            "open",
+            "open_to",
+        )
+    },
+    "xaes/expanded.rt": {"ExpandedKey": ("expand", "expand_message_key")},
+    "xaes/key.rt": {"Xaes256Gcm": ("derived_key", "derived_blocks")},
+}
+# The files whose functions jobs reach: each is inlined, since only then it is compiled for the level of the job.
+INLINED = (
+    "aead_ciphers_base/aes.rt",
+    "aead_ciphers_base/aes/",
+    "aead_ciphers_base/bb.rt",
+    "aead_ciphers_base/overlapping/",
+    "aead_ciphers_base/values.rt",
+    "aead_ciphers_base/polyfill/",
+    "aead_ciphers/gcm.rt",
+    "aead_ciphers/gcm/context.rt",
+    "aead_ciphers/gcm/limits.rt",
+    "aead_ciphers/gcm/padding.rt",
+    "aead_ciphers/aes_gcm/",
+    "aead_ciphers_wide/",
+    "xaes/cmac.rt",
+    "xaes/nonce.rt",
+)
+# Keys and what holds bytes of keys: these are overwritten when they are dropped.
+WIPED = {
+    "aead_ciphers_base/aes.rt": {"Key": ("round_keys",)},
+    "aead_ciphers_base/chacha.rt": {"Key": ("words",)},
+}
