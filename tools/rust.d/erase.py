@@ -38,8 +38,18 @@ def kept_lead(lead):
     return lead[:end]
 
 
+def without_examples(source, lead):
+    """Returns the comments before an item without the examples in Rattle: from a heading or a sentence that ends in "From `FILE`:"
+    to the end of the block after it."""
+    text = text_of(lead)
+    found, count = lists.EXAMPLE.subn("", text)
+    source.counts["example"] += count
+    return made(found, lead[0].line) if count else lead
+
+
 def attributes(source, lead):
-    """Returns the comments and attributes before an item, without tactics and without `Drop`."""
+    """Returns the comments and attributes before an item, without tactics, `Drop` and examples in Rattle."""
+    lead = without_examples(source, lead)
     kept, at = [], 0
     while at < len(lead):
         if lead[at].text != "#":
@@ -107,7 +117,7 @@ def replaced(source, tokens):
                 source.used.add(number)
             if it.file != "*" and count > 1:
                 raise source.fault(0, f"`{it.old}` stands more than once")
-    return arrays(tokens)
+    return shuffles(arrays(tokens))
 
 
 def replaced_text(tokens, old, new):
@@ -174,6 +184,18 @@ def arrays(tokens):
     return arrays(tokens[:start] + call + tokens[group_end(tokens, at) :])
 
 
+def shuffles(tokens):
+    """Returns the tokens with the places of each shuffle as a constant expression, which the compiler computes once."""
+    found = next((at for at, token in enumerate(tokens) if token.text == "shuffle" and tokens[at - 1].text == "."), None)
+    if found is None:
+        return tokens
+    end = group_end(tokens, found + 1)
+    other, places = parts(tokens[found + 2 : end - 1])
+    call = made(f"SHUFFLE({text_of(other)}, const {{ simd::Places::new({text_of(places).strip()}) }})", tokens[found].line)
+    rest = shuffles([*tokens[:found], *call, *tokens[end:]])
+    return [token._replace(text="shuffle") if token.text == "SHUFFLE" else token for token in rest]
+
+
 def executed(source, body):
     """Returns a body without the calls of laws and without the clauses of closures."""
     names = {name for path, name in lists.LAWS if path.split("/")[0] == source.crate}
@@ -227,7 +249,13 @@ def inlined(source, item):
     lead = attributes(source, item.lead)
     if item.tokens[-1].text == ";" or not is_inlined(source.path):
         return lead
-    text = re.sub(r"#\[inline\(\w+\)\]\s*", "", text_of(lead))
+    text = text_of(lead)
+    if "#[inline(never)]" in text:
+        key = (source.path, item.name)
+        if key not in lists.INLINED_AFTER_ALL:
+            return lead
+        source.used.add(key)
+    text = re.sub(r"#\[inline\(\w+\)\]\s*", "", text)
     return made(text.rstrip(" ") + "#[inline(always)]\n", item.line)
 
 
@@ -331,12 +359,25 @@ class Writer:
             at = item.body_start()
             tokens = without_bounds(self.source, tokens[:at]) + fields(self.source, tokens[at:])
         tokens = self.leveler.struct(self.source, item.name, tokens)
-        return text_of(attributes(self.source, item.lead)) + text_of(self.rewritten(tokens))
+        return text_of(attributes(self.source, item.lead)) + text_of(self.rewritten(tokens)) + self.wiped(item)
+
+    def wiped(self, item):
+        """Returns the `Drop` that overwrites a key, if the type is one of `WIPED`."""
+        fields = lists.WIPED.get(self.source.path, {}).get(item.name)
+        if not fields:
+            return ""
+        self.source.used.add((self.source.path, item.name))
+        if item.kind == "enum":
+            arms = " ".join(f"{item.name}::{field}(bytes) => simd::wipe(bytes)," for field in fields)
+            body = f"match self {{ {arms} }}"
+        else:
+            body = " ".join(f"simd::wipe(&mut self.{field});" for field in fields)
+        return f"\n\n/// Overwrites the key with zeros.\nimpl Drop for {item.name} {{ fn drop(&mut self) {{ {body} }} }}"
 
     def enum(self, item, place):
         displayed = contracts.displayed(self.source, item)
         lead = text_of(attributes(self.source, item.lead))
-        return lead + text_of(self.rewritten(displayed.tokens)) + displayed.impls
+        return lead + text_of(self.rewritten(displayed.tokens)) + displayed.impls + self.wiped(item)
 
     def trait(self, item, place):
         return self.block(item, "trait")
@@ -377,6 +418,9 @@ class Writer:
         if is_entry:
             it.body = replaced(self.source, it.body)
             return lead + self.leveler.entry(self.source, it)
+        if self.leveler.is_outlined(item, it):
+            it.body = replaced(self.source, it.body)
+            return lead.replace("inline(never)", "inline(always)") + self.leveler.outlined(self.source, it)
         it = self.leveler.function(self.source, it, place)
         return lead + text_of(self.rewritten(made(text_of_function(it), item.line)))
 

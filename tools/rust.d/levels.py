@@ -156,6 +156,32 @@ class Leveler:
         return text_of_function(it) + at_level
 
 
+    def is_outlined(self, item, it):
+        """Returns whether a function that has the level is one that isn't to be inlined."""
+        return it.name in self.functions and "#[inline(never)]" in text_of(item.lead)
+
+    def outlined(self, source, it):
+        """Returns a function of its own for the level, which `simd` calls: a struct of its parameters, whose call is the body."""
+        name = "".join(part.title() for part in it.name.split("_"))
+        it = self.function(source, it, "file")
+        names = [name_of(part) for part in parts(it.parameters)]
+        fields = [with_lifetime(" ".join(text_of(part).split())) for part in parts(self.mentions(source, it.parameters))]
+        fields = [field.removeprefix("mut ") for field in fields]
+        result, body = text_of(self.mentions(source, it.result)).strip(), text_of(self.mentions(source, it.body))
+        output = result.removeprefix("->").strip() or "()"
+        it.body = made(f"{{ V::outlined({name} {{ {', '.join(names)}, level: core::marker::PhantomData::<V> }}) }}")
+        return (
+            text_of(self.mentions(source, made(text_of_function(it))))
+            + f"\n\n/// A call of `{it.name}`.\nstruct {name}<'a, {LEVEL}> {{ {', '.join(fields)}, level: core::marker::PhantomData<V> }}\n\n"
+            f"impl<{LEVEL}> simd::Call for {name}<'_, V> {{ type Output = {output};\n\n#[inline(always)]\n"
+            f"fn call(self) {result} {{ let {name} {{ {', '.join(names)}, .. }} = self; {body.strip()[1:-1]} }} }}"
+        )
+
+
+def with_lifetime(field):
+    return re.sub(r"&(?!')", "&'a ", field.replace("'_", "'a"))
+
+
 def each(sources):
     """Yields each function and struct of the sources that isn't left out, with the head of its `impl` and its file."""
     for source in sources:
@@ -203,7 +229,7 @@ def job_of(owner, job, it, has_self, names, result):
         text = " ".join(text_of(part).split())
         if name_of(part) == "self":
             text = f"key: {'&mut ' if 'mut' in words_of(part) else '&'}{owner}"
-        fields.append(re.sub(r"&(?!')", "&'a ", text.replace("'_", "'a")))
+        fields.append(with_lifetime(text))
     generics, place = ("<'a>", "<'_>") if any("'a" in field for field in fields) else ("", "")
     output = re.sub(r"\bSelf\b", owner, result.removeprefix("->").strip() or "()")
     called = f"self.key.{it.name}_at" if has_self else f"{owner}::{it.name}_at"

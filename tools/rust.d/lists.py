@@ -1,6 +1,14 @@
 """What `tools/rust` deletes, replaces, leaves out and adds, each with its reason. rust/README.md has these lists."""
 
+import re
 import typing
+
+# An example in Rattle in a doc comment: the empty line, the heading and the paragraph before its block, and the block.
+DOC = r"[ \t]*//[/!]"
+EXAMPLE = re.compile(
+    rf"(?:{DOC}\n)?(?:{DOC} # Examples\n{DOC}\n)?(?:{DOC} (?!#|<)[^\n]+\n)*{DOC} [^\n]*From `[^`\n]+`:\n{DOC}\n{DOC} ```\n"
+    rf"(?:{DOC}(?! ```)[^\n]*\n)*{DOC} ```\n"
+)
 
 
 class Entry(typing.NamedTuple):
@@ -39,6 +47,7 @@ DELETED = {
     "model": Entry("`impl Model for ..`", "It says which value the contracts see in a type."),
     "derived Drop": Entry("`Drop` in `#[derive(..)]`", "In Rattle only a type with `Drop` may be let go. In Rust each may."),
     "Drop bound": Entry("`Drop` as a bound", "The same."),
+    "example": Entry("an example in a doc comment, with its heading, whose source is a test or an example in Rattle", "It doesn't compile as Rust."),
     "law": Entry("a call of a function of `LAWS`", "It does nothing, and its contract is for the proof."),
 }
 
@@ -196,8 +205,20 @@ INLINED = (
     "xaes/cmac.rt",
     "xaes/nonce.rt",
 )
-# Keys and what holds bytes of keys: these are overwritten when they are dropped.
+# Functions that Rattle's compiler is told not to inline, and that are inlined here.
+INLINED_AFTER_ALL = {
+    ("aead_ciphers/aes_gcm/opening.rt", "authenticate"): "It is generic over the cipher and the hash, which jobs reach.",
+}
+
+# Keys, and states that hold bytes of a key or of a keystream: `Drop` overwrites these fields with zeros.
 WIPED = {
     "aead_ciphers_base/aes.rt": {"Key": ("round_keys",)},
     "aead_ciphers_base/chacha.rt": {"Key": ("words",)},
+    "aead_ciphers/gcm.rt": {"Key": ("multiples",)},
+    "aead_ciphers/aead/unbound_key.rt": {"UnboundBytes": ("AES_128", "AES_256")},
+    "aead_ciphers/aes_gcm/expanded.rt": {"ExpandedKey": ("round_keys", "multiples")},
+    "aead_ciphers_wide/aes/block_key.rt": {"BlockKey": ("round_keys",)},
+    "aead_ciphers_wide/aes_gcm.rt": {"ExpandedKey": ("planes", "round_keys", "products", "squares")},
+    "aead_ciphers_wide/aes_gcm/pieces.rt": {"SealState": ("xi", "batch")},
+    "xaes/expanded.rt": {"ExpandedKey": ("round_keys", "subkey")},
 }

@@ -36,7 +36,8 @@ def used_by(found):
 def check_used(found):
     """Fails if an entry of a list matches nothing."""
     used, counts = used_by(found)
-    wanted = {*lists.LEFT_OUT_ITEMS, *lists.DROPPED_IMPORTS, *lists.DROPPED_NAMES, *lists.ADDED, *lists.UNDERSCORED, *range(len(lists.REPLACED))}
+    wanted = {*lists.LEFT_OUT_ITEMS, *lists.DROPPED_IMPORTS, *lists.DROPPED_NAMES, *lists.ADDED, *lists.UNDERSCORED, *lists.INLINED_AFTER_ALL, *range(len(lists.REPLACED))}
+    wanted |= {(path, name) for path, owners in lists.WIPED.items() for name in owners}
     wanted |= {(path, name) for path, owners in lists.ENTRIES.items() for names in owners.values() for name in names}
     for entry in wanted - used:
         what = lists.REPLACED[entry].old if isinstance(entry, int) else entry

@@ -120,6 +120,13 @@ pub struct Key {
     multiples: [u32; 512],
 }
 
+/// Overwrites the key with zeros.
+impl Drop for Key {
+    fn drop(&mut self) {
+        simd::wipe(&mut self.multiples);
+    }
+}
+
 impl Key {
     /// Creates a key from a hash subkey, and computes the multiples of the subkey.
     ///

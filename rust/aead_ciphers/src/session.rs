@@ -81,41 +81,6 @@ impl Job {
 /// Runs the jobs in order: `Seal` jobs with the sealing key, `Open` jobs with the opening key. The outcome of each job
 /// is overwritten. A sealing job may allocate memory for its tag.
 ///
-/// # Examples
-///
-/// Two of five jobs succeed, since the sealing key has two nonces, whatever its expanded key is.
-/// From `crates/aead_ciphers_wide_tests/src/tests/session.rt`:
-///
-/// ```
-/// fn twice<K: GcmKey>(rt: &impl Abort, alloc: Global, case: &Case) -> Result<(), Fail> {
-///     let mut jobs = five_jobs(alloc)?;
-///     run(
-///         &mut sealing::<K>(case, 2)?,
-///         &mut opening::<K>(case, 0)?,
-///         &mut jobs,
-///     );
-///     sealed_so_many(rt, &jobs, 2);
-///     Ok(())
-/// }
-/// ```
-///
-/// A caller that runs two lists states that no nonce of either is used twice.
-/// From `crates/aead_ciphers_wide_tests/src/tests/examples/session.rt`:
-///
-/// ```
-/// pub fn run_both<K: GcmKey, L: GcmKey, S: NonceSequence, O: NonceSequence>(
-///     sealing: &mut SealingKey<K, S>,
-///     opening: &mut OpeningKey<L, O>,
-///     first: &mut [Job],
-///     second: &mut [Job],
-/// )
-///     ensures no_nonce_twice { GrewFresh (S.spent sealing.old.sequence) (S.spent sealing.new.sequence) }
-/// {
-///     run(sealing, opening, first);
-///     run(sealing, opening, second);
-/// }
-/// ```
-///
 /// <details><summary>Contract</summary>
 ///
 /// ```text

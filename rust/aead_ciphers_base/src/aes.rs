@@ -92,19 +92,6 @@ impl<'a> KeyBytes<'a> {
 }
 
 /// A block cipher under a key, which encrypts one block at a time.
-///
-/// # Examples
-///
-/// CMAC of one block, under a key whose first subkey is kept. From `crates/xaes/src/cmac.rt`:
-///
-/// ```
-/// fn mac_of_block(&self, block: Block) -> Block
-///     ensures { result ≡ cmac_of_block self.now block }
-/// {
-///     self.cipher
-///         .encrypt_block(bb::xor_16(self.subkey, block), &mut Work::new())
-/// }
-/// ```
 pub trait EncryptBlock {
     /// Encrypts a block: 16 bytes in, 16 bytes out. Counts one block in `work`.
     ///
@@ -166,20 +153,17 @@ pub trait EncryptCtr32: EncryptBlock {
 }
 
 /// An expanded AES key: its round keys (FIPS 197 section 5.2), each in all four blocks of eight planes.
-///
-/// # Examples
-///
-/// From `crates/aead_ciphers_base_tests/src/tests/aes.rt`:
-///
-/// ```
-/// fn expanded(key: &[u8]) -> Result<Key, Fail> {
-///     Ok(Key::new(KeyBytes::from_slice(key)?)?)
-/// }
-/// ```
 #[derive(Clone)]
 pub struct Key {
     round_keys: [[u64; 8]; 15],
     rounds: usize,
+}
+
+/// Overwrites the key with zeros.
+impl Drop for Key {
+    fn drop(&mut self) {
+        simd::wipe(&mut self.round_keys);
+    }
 }
 
 impl Key {

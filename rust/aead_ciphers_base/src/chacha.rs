@@ -118,6 +118,13 @@ pub struct Key {
     words: [u32; 8],
 }
 
+/// Overwrites the key with zeros.
+impl Drop for Key {
+    fn drop(&mut self) {
+        simd::wipe(&mut self.words);
+    }
+}
+
 impl Key {
     /// Creates a key from 32 bytes.
     ///
@@ -152,21 +159,6 @@ impl Key {
     ///
     /// The output is as long as the input. The bytes after it are unchanged. The number of the last
     /// block must be below 2^32.
-    ///
-    /// # Examples
-    ///
-    /// From `crates/aead_ciphers_tests/src/tests/examples/streams.rt`:
-    ///
-    /// ```
-    /// pub fn xor_stream(key: [u8; chacha::KEY_LEN], nonce: [u8; NONCE_LEN], message: &mut [u8])
-    ///     requires { 1 + div_ceil (length message.old) 64 ≤ 2 ^ 32 }
-    ///     ensures { message.new ≡ chacha20_encrypted key 1 nonce message.old }
-    /// {
-    ///     let nonce = Nonce::assume_unique_for_key(nonce);
-    ///     let counter = chacha::Counter::from_nonce_and_ctr(nonce, 1);
-    ///     chacha::Key::new(key).encrypt(counter, Overlapping::from(message));
-    /// }
-    /// ```
     ///
     /// <details><summary>Contract</summary>
     ///

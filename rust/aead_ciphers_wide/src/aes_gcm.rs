@@ -35,6 +35,16 @@ pub struct ExpandedKey {
     pub squares: [u8; 512],
 }
 
+/// Overwrites the key with zeros.
+impl Drop for ExpandedKey {
+    fn drop(&mut self) {
+        simd::wipe(&mut self.planes);
+        simd::wipe(&mut self.round_keys);
+        simd::wipe(&mut self.products);
+        simd::wipe(&mut self.squares);
+    }
+}
+
 impl ExpandedKey {
     /// Does the same as `expand`, for planes of this width, as the clause `width` says. No byte of a key that was there before
     /// stays.

@@ -11,10 +11,10 @@ fn main() {
     for i in 0..reps {
         let mut non = [0u8; 12]; non[..8].copy_from_slice(&(i as u64).to_le_bytes());
         match what {
-            "seal" => { black_box(key.seal_in_place_separate_tag(Nonce::assume_unique_for_key(non), Aad::empty(), &mut buf).unwrap()); }
+            "seal" => { let _ = black_box(key.seal_in_place_separate_tag(Nonce::assume_unique_for_key(non), Aad::empty(), &mut buf).unwrap()); }
             "key" => { black_box(LessSafeKey::new(UnboundKey::new(&AES_128_GCM, &[i as u8; 16]).unwrap())); }
             "mask" => { black_box(q.new_mask(&[i as u8; 16]).unwrap()); }
-            "xaes" => { black_box(x.seal_in_place_separate_tag(deerlapse::xaes::XNonce::assume_unique_for_key([i as u8; 24]), Aad::empty(), &mut buf).unwrap()); }
+            "xaes" => { let _ = black_box(x.seal_in_place_separate_tag(deerlapse::xaes::XNonce::assume_unique_for_key([i as u8; 24]), Aad::empty(), &mut buf).unwrap()); }
             _ => {}
         }
     }

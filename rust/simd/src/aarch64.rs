@@ -2,7 +2,7 @@
 
 use core::arch::aarch64::*;
 
-use crate::level::{Job, Level, Sealed, in_halves};
+use crate::level::{Call, Job, Level, Sealed, in_halves};
 
 /// 128 bits.
 pub type Bytes = uint8x16_t;
@@ -148,6 +148,11 @@ impl Sealed for Neon {}
 
 impl Level for Neon {
     in_halves!();
+
+    #[inline(never)]
+    fn outlined<C: Call>(call: C) -> C::Output {
+        call.call()
+    }
 
     #[inline(always)]
     fn permuted(table: Bytes, places: Bytes) -> Bytes {

@@ -16,6 +16,10 @@ pub trait Level: Sealed + Copy + 'static {
     #[doc(hidden)]
     type Wide: Copy;
 
+    /// Makes a call whose code is a function of its own, compiled for this level. All that the call reaches should be
+    /// `#[inline(always)]`.
+    fn outlined<C: Call>(call: C) -> C::Output;
+
     #[doc(hidden)]
     fn permuted(table: Bytes, places: Bytes) -> Bytes;
 
@@ -47,6 +51,15 @@ pub trait Job {
 
     /// Does the job, with the vectors of this level.
     fn run<V: Level>(self) -> Self::Output;
+}
+
+/// A call that [`Level::outlined`] makes.
+pub trait Call {
+    /// What the call returns.
+    type Output;
+
+    /// Makes the call.
+    fn call(self) -> Self::Output;
 }
 
 /// The operations on 256 bits by those on each half.

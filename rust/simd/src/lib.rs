@@ -63,9 +63,9 @@ mod processor;
 mod processor;
 
 pub use arrays::{array_of, array_of_mut};
-pub use level::{Job, Level};
+pub use level::{Call, Job, Level};
 pub use processor::{at_most, has_256_bits, levels, run};
-pub use vectors::{u8x16, u64x2};
+pub use vectors::{Places, u8x16, u64x2};
 pub use wide::u64x4;
 pub use wipe::{Plain, wipe};
 pub use words::u32x4;

@@ -1,6 +1,6 @@
 //! Vectors as arrays, for processors whose vectors this package has no code for.
 
-use crate::level::{Job, Level, Sealed, in_halves};
+use crate::level::{Call, Job, Level, Sealed, in_halves};
 
 /// 128 bits.
 #[derive(Clone, Copy)]
@@ -143,6 +143,11 @@ impl Sealed for Arrays {}
 
 impl Level for Arrays {
     in_halves!();
+
+    #[inline(never)]
+    fn outlined<C: Call>(call: C) -> C::Output {
+        call.call()
+    }
 
     /// Reads all sixteen bytes of the table for each place, by masks.
     #[inline(always)]

@@ -24,6 +24,37 @@ pub struct u64x2<V> {
     level: PhantomData<V>,
 }
 
+/// The places of a shuffle of two vectors: those of the first are below 16, and those of the second from 16 to 31.
+///
+/// They are made by a constant expression, so that nothing is computed when the program runs.
+#[derive(Clone, Copy)]
+pub struct Places {
+    here: [u8; 16],
+    there: [u8; 16],
+}
+
+impl Places {
+    /// Creates the places.
+    ///
+    /// # Panics
+    ///
+    /// Panics if one of them is above 31.
+    pub const fn new(places: [u8; 16]) -> Self {
+        let (mut here, mut there) = ([128; 16], [128; 16]);
+        let mut i = 0;
+        while i < 16 {
+            assert!(places[i] < 32);
+            if places[i] < 16 {
+                here[i] = places[i];
+            } else {
+                there[i] = places[i] - 16;
+            }
+            i += 1;
+        }
+        Places { here, there }
+    }
+}
+
 impl<V: Level> u8x16<V> {
     #[inline(always)]
     pub(crate) fn of(bytes: Bytes) -> Self {
@@ -86,19 +117,10 @@ impl<V: Level> u8x16<V> {
         self.swizzle_dyn(Self::from_array(places))
     }
 
-    /// Returns the byte at each of these places in the two vectors, one after the other. The places are below 32.
+    /// Returns the byte at each place in the two vectors, one after the other.
     #[inline(always)]
-    pub fn shuffle(self, other: Self, places: [u8; 16]) -> Self {
-        // A loop, since the compiler doesn't always compute a call of `map` where the places are constants.
-        let (mut here, mut there) = ([128; 16], [128; 16]);
-        for i in 0..16 {
-            if places[i] < 16 {
-                here[i] = places[i];
-            } else {
-                there[i] = places[i] - 16;
-            }
-        }
-        self.swizzle(here) ^ other.swizzle(there)
+    pub fn shuffle(self, other: Self, places: Places) -> Self {
+        self.swizzle(places.here) ^ other.swizzle(places.there)
     }
 
     /// Returns the difference of zero and each byte, modulo 256.

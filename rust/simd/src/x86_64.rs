@@ -3,7 +3,7 @@
 use core::arch::x86_64::*;
 use core::sync::atomic::{AtomicU8, Ordering};
 
-use crate::level::{Job, Level, Sealed, in_halves};
+use crate::level::{Call, Job, Level, Sealed, in_halves};
 
 /// 128 bits.
 pub type Bytes = __m128i;
@@ -132,6 +132,11 @@ impl Sealed for Avx2 {}
 impl Level for Sse2 {
     in_halves!();
 
+    #[inline(never)]
+    fn outlined<C: Call>(call: C) -> C::Output {
+        call.call()
+    }
+
     /// Reads all sixteen bytes of the table for each place, by masks.
     #[inline(always)]
     fn permuted(table: Bytes, places: Bytes) -> Bytes {
@@ -149,6 +154,12 @@ impl Level for Ssse3 {
     in_halves!();
 
     #[inline(always)]
+    fn outlined<C: Call>(call: C) -> C::Output {
+        // SAFETY: only `run` names this level, where the processor has the features.
+        unsafe { call_ssse3(call) }
+    }
+
+    #[inline(always)]
     fn permuted(table: Bytes, places: Bytes) -> Bytes {
         // SAFETY: only `run` names this level, where the processor has SSSE3.
         unsafe { _mm_shuffle_epi8(table, places) }
@@ -159,6 +170,12 @@ impl Level for Avx2 {
     const HAS_256_BITS: bool = true;
 
     type Wide = __m256i;
+
+    #[inline(always)]
+    fn outlined<C: Call>(call: C) -> C::Output {
+        // SAFETY: only `run` names this level, where the processor has the features.
+        unsafe { call_avx2(call) }
+    }
 
     #[inline(always)]
     fn permuted(table: Bytes, places: Bytes) -> Bytes {
@@ -295,4 +312,26 @@ unsafe fn run_avx2<J: Job>(job: J) -> J::Output {
 #[target_feature(enable = "popcnt,sse4.2,ssse3")]
 unsafe fn run_ssse3<J: Job>(job: J) -> J::Output {
     job.run::<Ssse3>()
+}
+
+/// Makes a call by AVX2.
+///
+/// # Safety
+///
+/// The processor must have the features.
+#[target_feature(enable = "avx2,bmi1,bmi2,fma,lzcnt,movbe,popcnt,sse4.2,ssse3")]
+#[inline(never)]
+unsafe fn call_avx2<C: Call>(call: C) -> C::Output {
+    call.call()
+}
+
+/// Makes a call by SSSE3.
+///
+/// # Safety
+///
+/// The processor must have the features.
+#[target_feature(enable = "popcnt,sse4.2,ssse3")]
+#[inline(never)]
+unsafe fn call_ssse3<C: Call>(call: C) -> C::Output {
+    call.call()
 }

@@ -11,17 +11,6 @@ use crate::{KEY_UPDATE_LEN, MESSAGE_HEADER_LEN};
 /// If a record ends within a message, the reader keeps the part of the message. The caller lends it a buffer, whose length is
 /// the most bytes that a message may have. An error ends the connection and closes the reader: every later call that can fail
 /// returns `Closed`.
-///
-/// # Examples
-///
-/// Takes the messages of one record: `handle` follows a KeyUpdate, and appends another message.
-/// From `crates/records/src/connection/receiving.rt`:
-///
-/// ```
-/// while let Some(message) = messages.next(&mut content)? {
-///     handle_message(alloc, incoming, message, handed)?;
-/// }
-/// ```
 pub struct MessageReader<'b> {
     buffer: &'b mut [u8],
     filled: usize,
@@ -53,22 +42,6 @@ impl<'b> MessageReader<'b> {
 
     /// Sets which messages may come from now on (RFC 8446 sections 4 and 4.6), also if a message is cut. After the peer's
     /// Finished, for example, other messages may come than before.
-    ///
-    /// # Examples
-    ///
-    /// Takes the next message of a server's handshake, and continues after the handshake if it is the Finished.
-    /// From `crates/records_tests/src/tests/examples/handshake_messages.rt`:
-    ///
-    /// ```
-    /// let Some(message) = messages.next(content)? else {
-    ///     return Ok(false);
-    /// };
-    /// if message[0] != FINISHED {
-    ///     return Ok(false);
-    /// }
-    /// messages.set_stage(Stage::Client);
-    /// Ok(true)
-    /// ```
     ///
     /// <details><summary>Contract</summary>
     ///

@@ -29,6 +29,14 @@ pub struct ExpandedKey {
     pub subkey: [u8; 16],
 }
 
+/// Overwrites the key with zeros.
+impl Drop for ExpandedKey {
+    fn drop(&mut self) {
+        simd::wipe(&mut self.round_keys);
+        simd::wipe(&mut self.subkey);
+    }
+}
+
 impl ExpandedKey {
     /// Returns a value that is not a key until `expand` is called.
     ///

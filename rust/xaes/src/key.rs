@@ -22,25 +22,6 @@ use core::ops::RangeFrom;
 /// it. Neither is overwritten when the call returns, since no contract can say what the memory of a call holds afterwards.
 ///
 /// As AES-GCM, XAES-256-GCM does not commit to the key: a ciphertext and tag can be made that two keys open.
-///
-/// # Examples
-///
-/// From `crates/xaes_tests/src/tests/examples/random_nonces.rt`:
-///
-/// ```
-/// pub fn seal(
-///     key: &Xaes256Gcm,
-///     random: [u8; XAES_NONCE_LEN],
-///     aad: &[u8],
-///     message: &mut Vec<u8>,
-/// ) -> Result<(), Unspecified>
-///     ensures sealed { OnOk result (message.new.items ≡ xaes_sealed key.now random aad.now message.old.items) }
-///     ensures refused { OnErr result (message.new.items ≡ message.old.items) }
-/// {
-///     let nonce = XNonce::assume_unique_for_key(random);
-///     key.seal_in_place_append_tag(nonce, Aad::from(aad), message)
-/// }
-/// ```
 #[derive(Clone)]
 pub struct Xaes256Gcm {
     expanded: ExpandedKey,

@@ -4,19 +4,6 @@ use crate::aead::{Algorithm, NonceSequence, UnboundKey};
 use core::fmt;
 
 /// An AEAD key that is bound to a nonce sequence, which supplies the nonce of each call.
-///
-/// # Examples
-///
-/// Creates the keys of both directions. From `crates/aead_ciphers/src/aeadrun/calls.rt`:
-///
-/// ```
-/// let sealing = UnboundKey::new(algorithm, key)?;
-/// let opening = UnboundKey::new(algorithm, key)?;
-/// Ok(Keys {
-///     sealing: SealingKey::new(sealing, CounterSequence::new(prefix, first, count)?),
-///     opening: OpeningKey::new(opening, CounterSequence::new(prefix, first, count)?),
-/// })
-/// ```
 pub trait BoundKey<N: NonceSequence>: fmt::Debug {
     /// Binds `unbound_key` to `nonce_sequence`. No nonce is consumed.
     ///

@@ -4,36 +4,6 @@ use crate::aead::{Nonce, Unspecified};
 
 /// A sequence of nonces for one key, no two of them equal (SP 800-38D section 8). It may start open or closed, and
 /// stays closed once it is closed.
-///
-/// # Examples
-///
-/// A sequence that returns one nonce, once. From `crates/aead_ciphers_tests/src/tests/examples/one_nonce.rt`:
-///
-/// ```
-/// impl NonceSequence for OneNonce {
-///     ghost use Rattle.std.specs.Prelude.{◌≡◌, if◌then◌else◌, [], ◌∷◌, true};
-///
-///     ghost spent = { λ s. (if s.is_spent then s.nonce ∷ [] else []) };
-///
-///     ghost is_closed = { λ s. s.is_spent };
-///
-///     ghost origin = { λ s. s.nonce };
-///
-///     ghost gives = { λ s t. t ≡ record s { is_spent = true } };
-///
-///     ghost refuses = { λ s t. (s.is_spent ≡ true) × (t ≡ s) };
-///
-///     ghost is_next = { λ s nonce. nonce ≡ s.nonce };
-///
-///     fn advance(&mut self) -> Result<Nonce, Unspecified> {
-///         if self.is_spent {
-///             return Err(Unspecified);
-///         }
-///         self.is_spent = true;
-///         Ok(Nonce::assume_unique_for_key(self.nonce))
-///     }
-/// }
-/// ```
 pub trait NonceSequence {
     /// Returns the next nonce.
     ///

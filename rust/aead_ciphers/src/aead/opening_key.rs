@@ -8,22 +8,6 @@ use core::fmt;
 use core::ops::RangeFrom;
 
 /// An AEAD key for opening that is bound to a nonce sequence: each call uses the next nonce. It cannot be cloned.
-///
-/// # Examples
-///
-/// Creates a key that counts its nonces. From `crates/aead_ciphers_tests/src/tests/examples/connection.rt`:
-///
-/// ```
-/// let sequence = CounterSequence::new(prefix, 0, NONCES)?;
-/// Ok(OpeningKey::new(UnboundKey::new(algorithm, key_bytes)?, sequence))
-/// ```
-///
-/// Opens the next message. A rejected message consumes its nonce too.
-/// From `crates/aead_ciphers_tests/src/tests/examples/connection.rt`:
-///
-/// ```
-/// key.open_in_place_to_front(Aad::from(aad), message)
-/// ```
 pub struct OpeningKey<K: GcmKey, N> {
     key: LessSafeKey<K>,
     nonce_sequence: N,

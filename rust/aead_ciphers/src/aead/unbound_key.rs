@@ -19,6 +19,16 @@ enum UnboundBytes {
     AES_256([u8; AES_256_KEY_LEN]),
 }
 
+/// Overwrites the key with zeros.
+impl Drop for UnboundBytes {
+    fn drop(&mut self) {
+        match self {
+            UnboundBytes::AES_128(bytes) => simd::wipe(bytes),
+            UnboundBytes::AES_256(bytes) => simd::wipe(bytes),
+        }
+    }
+}
+
 impl UnboundKey {
     /// Creates a key for `algorithm` from `key_bytes`.
     ///

@@ -6,23 +6,6 @@ use aead_ciphers_base::bb;
 /// A sequence of 12-byte nonces: an IV of 12 bytes, XORed with a number, which counts up. The number is in 8 big-endian
 /// bytes after four zero bytes (RFC 8446 section 5.3: the sequence number of a record; RFC 9001 section 5.3: the number
 /// of a packet). It cannot be cloned. ring has no such type.
-///
-/// # Examples
-///
-/// The nonces of RFC 9001 appendix A.5. From `crates/aead_ciphers_tests/src/tests/sequences.rt`:
-///
-/// ```
-/// fn rfc_9001_a_5_nonce(rt: HostRuntime) -> Result<(), Fail> {
-///     let nonce = nonce_of(&IV, NUMBER);
-///     same(&rt, nonce.as_ref(), &NONCE, "of the number");
-///     let mut sequence = XoredSequence::new(IV, NUMBER, NUMBER + 2)?;
-///     gives(&rt, &mut sequence, Some(&NONCE));
-///     gives(&rt, &mut sequence, Some(&NEXT_NONCE));
-///     gives(&rt, &mut sequence, None);
-///     gives(&rt, &mut sequence, None);
-///     Ok(())
-/// }
-/// ```
 pub struct XoredSequence {
     iv: [u8; NONCE_LEN],
     first: u64,

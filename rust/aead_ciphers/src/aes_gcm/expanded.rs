@@ -20,6 +20,14 @@ pub struct ExpandedKey {
     multiples: [u32; 512],
 }
 
+/// Overwrites the key with zeros.
+impl Drop for ExpandedKey {
+    fn drop(&mut self) {
+        simd::wipe(&mut self.round_keys);
+        simd::wipe(&mut self.multiples);
+    }
+}
+
 impl GcmKey for ExpandedKey {
     #[inline(always)]
     fn zeros() -> Self {

@@ -5,20 +5,6 @@ use crate::error::IndexError;
 use core::ops::RangeFrom;
 
 /// A slice that is read from `start` on and written from the front on.
-///
-/// # Examples
-///
-/// From `crates/aead_ciphers_base_tests/src/tests/overlapping.rt`:
-///
-/// ```
-/// fn copy_within_moves_the_input_to_the_front(rt: HostRuntime) -> Result<(), Fail> {
-///     let mut items = [1u8, 2, 3, 4, 5, 6];
-///     let front = Overlapping::new(&mut items, 2..)?.copy_within();
-///     same(&rt, front, &[3, 4, 5, 6], "the front");
-///     same(&rt, &items, &[3, 4, 5, 6, 5, 6], "the slice");
-///     Ok(())
-/// }
-/// ```
 pub struct Overlapping<'o, T> {
     /// The whole slice.
     pub in_out: &'o mut [T],

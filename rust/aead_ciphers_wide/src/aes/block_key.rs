@@ -14,6 +14,13 @@ pub struct BlockKey {
     rounds: usize,
 }
 
+/// Overwrites the key with zeros.
+impl Drop for BlockKey {
+    fn drop(&mut self) {
+        simd::wipe(&mut self.round_keys);
+    }
+}
+
 impl BlockKey {
     /// Expands a key of 16 or 32 bytes (FIPS 197 section 5.2).
     ///

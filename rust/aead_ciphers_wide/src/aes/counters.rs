@@ -69,6 +69,6 @@ fn counter_more<V: simd::Level>(block: Block, number: u32, more: u32) -> Word<V>
     let numbers = (u32x4::splat(number) + u32x4::from_array([0, 0, 0, more])).to_le_bytes();
     Word::<V>::from_bytes(u8x16::<V>::from_array(block).shuffle(
         numbers,
-        [0, 1, 2, 3, 4, 5, 6, 7, 8, 9, 10, 11, 31, 30, 29, 28],
+        const { simd::Places::new([0, 1, 2, 3, 4, 5, 6, 7, 8, 9, 10, 11, 31, 30, 29, 28]) },
     ))
 }

@@ -72,12 +72,46 @@ fn encrypt_up_to_eight<V: simd::Level>(
     counter: &Counter,
     count: usize,
 ) {
-    let keystream = key.encrypt_eight(counters::<V>(counter));
-    // With a constant for the number, the keystream of a whole batch stays in registers.
-    if count == 8 {
-        add_keystream(key, in_out, start, counter, keystream, 8);
-    } else {
-        add_keystream(key, in_out, start, counter, keystream, count);
+    V::outlined(EncryptUpToEight {
+        key,
+        in_out,
+        start,
+        counter,
+        count,
+        level: core::marker::PhantomData::<V>,
+    })
+}
+
+/// A call of `encrypt_up_to_eight`.
+struct EncryptUpToEight<'a, V: simd::Level> {
+    key: &'a KeyRef<'a, V>,
+    in_out: &'a mut [u8],
+    start: usize,
+    counter: &'a Counter,
+    count: usize,
+    level: core::marker::PhantomData<V>,
+}
+
+impl<V: simd::Level> simd::Call for EncryptUpToEight<'_, V> {
+    type Output = ();
+
+    #[inline(always)]
+    fn call(self) {
+        let EncryptUpToEight {
+            key,
+            in_out,
+            start,
+            counter,
+            count,
+            ..
+        } = self;
+        let keystream = key.encrypt_eight(counters::<V>(counter));
+        // With a constant for the number, the keystream of a whole batch stays in registers.
+        if count == 8 {
+            add_keystream(key, in_out, start, counter, keystream, 8);
+        } else {
+            add_keystream(key, in_out, start, counter, keystream, count);
+        }
     }
 }
 
@@ -90,11 +124,45 @@ fn encrypt_up_to_sixteen<V: simd::Level>(
     counter: &Counter,
     count: usize,
 ) {
-    let keystream = key.encrypt_sixteen(sixteen_counters::<V>(counter));
-    if count == 16 {
-        add_keystream(key, in_out, start, counter, keystream, 16);
-    } else {
-        add_keystream(key, in_out, start, counter, keystream, count);
+    V::outlined(EncryptUpToSixteen {
+        key,
+        in_out,
+        start,
+        counter,
+        count,
+        level: core::marker::PhantomData::<V>,
+    })
+}
+
+/// A call of `encrypt_up_to_sixteen`.
+struct EncryptUpToSixteen<'a, V: simd::Level> {
+    key: &'a KeyRef<'a, V>,
+    in_out: &'a mut [u8],
+    start: usize,
+    counter: &'a Counter,
+    count: usize,
+    level: core::marker::PhantomData<V>,
+}
+
+impl<V: simd::Level> simd::Call for EncryptUpToSixteen<'_, V> {
+    type Output = ();
+
+    #[inline(always)]
+    fn call(self) {
+        let EncryptUpToSixteen {
+            key,
+            in_out,
+            start,
+            counter,
+            count,
+            ..
+        } = self;
+        let keystream = key.encrypt_sixteen(sixteen_counters::<V>(counter));
+        if count == 16 {
+            add_keystream(key, in_out, start, counter, keystream, 16);
+        } else {
+            add_keystream(key, in_out, start, counter, keystream, count);
+        }
     }
 }
 
@@ -107,18 +175,52 @@ fn encrypt_few<V: simd::Level>(
     counter: &Counter,
     count: usize,
 ) {
-    for i in 0..count / 2 {
-        let at = 2 * BLOCK_LEN * i;
-        let first = counter.plus((2 * i) as u32);
-        let second = counter.plus((2 * i + 1) as u32);
-        let (first, second) = key.encrypt_two(first, second);
-        add_block::<V>(in_out, at, start + at, first);
-        add_block::<V>(in_out, at + BLOCK_LEN, start + at + BLOCK_LEN, second);
-    }
-    if count % 2 == 1 {
-        let at = BLOCK_LEN * (count - 1);
-        let last = key.encrypt_one(counter.plus((count - 1) as u32));
-        add_block::<V>(in_out, at, start + at, last);
+    V::outlined(EncryptFew {
+        key,
+        in_out,
+        start,
+        counter,
+        count,
+        level: core::marker::PhantomData::<V>,
+    })
+}
+
+/// A call of `encrypt_few`.
+struct EncryptFew<'a, V: simd::Level> {
+    key: &'a BlockKeyRef<'a, V>,
+    in_out: &'a mut [u8],
+    start: usize,
+    counter: &'a Counter,
+    count: usize,
+    level: core::marker::PhantomData<V>,
+}
+
+impl<V: simd::Level> simd::Call for EncryptFew<'_, V> {
+    type Output = ();
+
+    #[inline(always)]
+    fn call(self) {
+        let EncryptFew {
+            key,
+            in_out,
+            start,
+            counter,
+            count,
+            ..
+        } = self;
+        for i in 0..count / 2 {
+            let at = 2 * BLOCK_LEN * i;
+            let first = counter.plus((2 * i) as u32);
+            let second = counter.plus((2 * i + 1) as u32);
+            let (first, second) = key.encrypt_two(first, second);
+            add_block::<V>(in_out, at, start + at, first);
+            add_block::<V>(in_out, at + BLOCK_LEN, start + at + BLOCK_LEN, second);
+        }
+        if count % 2 == 1 {
+            let at = BLOCK_LEN * (count - 1);
+            let last = key.encrypt_one(counter.plus((count - 1) as u32));
+            add_block::<V>(in_out, at, start + at, last);
+        }
     }
 }
 

@@ -27,6 +27,14 @@ pub struct SealState {
     pub begun: u32,
 }
 
+/// Overwrites the key with zeros.
+impl Drop for SealState {
+    fn drop(&mut self) {
+        simd::wipe(&mut self.xi);
+        simd::wipe(&mut self.batch);
+    }
+}
+
 impl SealState {
     /// Returns a value whose fields are all zeros. It is not a message that has begun.
     ///

@@ -141,15 +141,19 @@ fn moved_by_one<V: simd::Level>(first: u8x16<V>, second: u8x16<V>) -> (u8x16<V>,
     (
         u8x16::<V>::splat(0).shuffle(
             first,
-            [
-                15, 16, 17, 18, 19, 20, 21, 22, 23, 24, 25, 26, 27, 28, 29, 30,
-            ],
+            const {
+                simd::Places::new([
+                    15, 16, 17, 18, 19, 20, 21, 22, 23, 24, 25, 26, 27, 28, 29, 30,
+                ])
+            },
         ),
         first.shuffle(
             second,
-            [
-                15, 16, 17, 18, 19, 20, 21, 22, 23, 24, 25, 26, 27, 28, 29, 30,
-            ],
+            const {
+                simd::Places::new([
+                    15, 16, 17, 18, 19, 20, 21, 22, 23, 24, 25, 26, 27, 28, 29, 30,
+                ])
+            },
         ),
     )
 }
@@ -160,15 +164,19 @@ fn moved_by_two<V: simd::Level>(first: u8x16<V>, second: u8x16<V>) -> (u8x16<V>,
     (
         u8x16::<V>::splat(0).shuffle(
             first,
-            [
-                14, 15, 16, 17, 18, 19, 20, 21, 22, 23, 24, 25, 26, 27, 28, 29,
-            ],
+            const {
+                simd::Places::new([
+                    14, 15, 16, 17, 18, 19, 20, 21, 22, 23, 24, 25, 26, 27, 28, 29,
+                ])
+            },
         ),
         first.shuffle(
             second,
-            [
-                14, 15, 16, 17, 18, 19, 20, 21, 22, 23, 24, 25, 26, 27, 28, 29,
-            ],
+            const {
+                simd::Places::new([
+                    14, 15, 16, 17, 18, 19, 20, 21, 22, 23, 24, 25, 26, 27, 28, 29,
+                ])
+            },
         ),
     )
 }
@@ -194,23 +202,44 @@ fn folded<V: simd::Level>(bytes: u8x16<V>, before: u8x16<V>) -> u8x16<V> {
 /// Writes the products of `block` and each digit of a byte to `table`.
 #[inline(always)]
 pub(crate) fn write_products<V: simd::Level>(table: &mut [u8; 512], block: u128) {
-    let multiples = blocks::<V>(multiples(block));
-    write_half(
+    V::outlined(WriteProducts {
         table,
-        0,
-        multiples[0],
-        multiples[1],
-        multiples[2],
-        multiples[3],
-    );
-    write_half(
-        table,
-        256,
-        multiples[4],
-        multiples[5],
-        multiples[6],
-        multiples[7],
-    );
+        block,
+        level: core::marker::PhantomData::<V>,
+    })
+}
+
+/// A call of `write_products`.
+struct WriteProducts<'a, V: simd::Level> {
+    table: &'a mut [u8; 512],
+    block: u128,
+    level: core::marker::PhantomData<V>,
+}
+
+impl<V: simd::Level> simd::Call for WriteProducts<'_, V> {
+    type Output = ();
+
+    #[inline(always)]
+    fn call(self) {
+        let WriteProducts { table, block, .. } = self;
+        let multiples = blocks::<V>(multiples(block));
+        write_half(
+            table,
+            0,
+            multiples[0],
+            multiples[1],
+            multiples[2],
+            multiples[3],
+        );
+        write_half(
+            table,
+            256,
+            multiples[4],
+            multiples[5],
+            multiples[6],
+            multiples[7],
+        );
+    }
 }
 
 /// Writes `row` to the 16 bytes of `table` from index `at` on.
@@ -309,11 +338,9 @@ fn sums_of_two<V: simd::Level>(a: u8x16<V>, b: u8x16<V>) -> [u8x16<V>; 4] {
 #[inline(always)]
 fn interleaved<V: simd::Level>(a: u8x16<V>, b: u8x16<V>) -> (u8x16<V>, u8x16<V>) {
     (
-        a.shuffle(b, [0, 16, 1, 17, 2, 18, 3, 19, 4, 20, 5, 21, 6, 22, 7, 23]),
+        a.shuffle(b, const { simd::Places::new([0, 16, 1, 17, 2, 18, 3, 19, 4, 20, 5, 21, 6, 22, 7, 23]) }),
         a.shuffle(
-            b,
-            [8, 24, 9, 25, 10, 26, 11, 27, 12, 28, 13, 29, 14, 30, 15, 31],
-        ),
+            b, const { simd::Places::new([8, 24, 9, 25, 10, 26, 11, 27, 12, 28, 13, 29, 14, 30, 15, 31]) }),
     )
 }
 
@@ -321,11 +348,9 @@ fn interleaved<V: simd::Level>(a: u8x16<V>, b: u8x16<V>) -> (u8x16<V>, u8x16<V>)
 #[inline(always)]
 fn interleaved_in_pairs<V: simd::Level>(a: u8x16<V>, b: u8x16<V>) -> (u8x16<V>, u8x16<V>) {
     (
-        a.shuffle(b, [0, 1, 16, 17, 2, 3, 18, 19, 4, 5, 20, 21, 6, 7, 22, 23]),
+        a.shuffle(b, const { simd::Places::new([0, 1, 16, 17, 2, 3, 18, 19, 4, 5, 20, 21, 6, 7, 22, 23]) }),
         a.shuffle(
-            b,
-            [8, 9, 24, 25, 10, 11, 26, 27, 12, 13, 28, 29, 14, 15, 30, 31],
-        ),
+            b, const { simd::Places::new([8, 9, 24, 25, 10, 11, 26, 27, 12, 13, 28, 29, 14, 15, 30, 31]) }),
     )
 }
 

@@ -20,18 +20,6 @@ impl<T, const N: usize> Copy for AsChunks<'_, T, N> {}
 /// Splits a slice into a view of as many whole blocks of `N` items as fit, and the fewer than `N` items
 /// after them.
 ///
-/// # Examples
-///
-/// `hold` asserts what the items contain. From `crates/aead_ciphers_base_tests/src/tests/chunks.rt`:
-///
-/// ```
-/// let items = [1, 2, 3, 4, 5].map(Item);
-/// let (blocks, rest) = as_chunks::<_, 2>(&items);
-/// assert_eq!(rt; blocks.len(), 2);
-/// hold(&rt, &blocks[1], &[3, 4]);
-/// hold(&rt, rest, &[5]);
-/// ```
-///
 /// <details><summary>Contract</summary>
 ///
 /// ```text

@@ -18,20 +18,6 @@ fn split_after_whole_blocks<T, const N: usize>(items: &mut [T]) -> (&mut [T], &m
 /// Splits a slice into a view of as many whole blocks of `N` items as fit, and the fewer than `N` items
 /// after them.
 ///
-/// # Examples
-///
-/// `hold` asserts what the items contain. From `crates/aead_ciphers_base_tests/src/tests/chunks.rt`:
-///
-/// ```
-/// let mut items = [1, 2, 3, 4, 5, 6].map(Item);
-/// let (mut view, rest) = as_chunks_mut::<_, 2>(&mut items);
-/// holds(&rt, rest.is_empty(), "nothing after them");
-/// assert_eq!(rt; view.as_ref().len(), 3);
-/// let (before, after) = view.split_at_mut(2);
-/// hold(&rt, before.as_flattened(), &[1, 2, 3, 4]);
-/// hold(&rt, after.as_flattened(), &[5, 6]);
-/// ```
-///
 /// <details><summary>Contract</summary>
 ///
 /// ```text
