@@ -134,6 +134,7 @@ REPLACED = [
     Replaced("aead_ciphers_base/polyfill/slice/chunks.rt", "-> Result<Self, std::alloc::AllocError> { Ok(*self) }", "-> Self { *self }", "The same."),
     Replaced("aead_ciphers/aead/less_safe_key.rt", "Ok(LessSafeKey { key: self.key.clone()?, algorithm: self.algorithm, })", "LessSafeKey { key: self.key.clone(), algorithm: self.algorithm, }", "The same."),
     Replaced("aead_ciphers/aes_gcm/key.rt", "Ok(Key { expanded: self.expanded.clone()?, })", "Key { expanded: self.expanded.clone(), }", "The same."),
+    Replaced("xaes/key.rt", "Ok(Xaes256Gcm { expanded: self.expanded.clone()?, })", "Xaes256Gcm { expanded: self.expanded.clone(), }", "The same."),
     Replaced(
         "aead_ciphers/aead/in_out.rt",
         "self.extend_from_slice(&[0; MAX_TAG_LEN]).map_err(|_| Unspecified)",

@@ -23,19 +23,25 @@ fn each_word(a: Bytes, b: Bytes, f: impl Fn(u32, u32) -> u32) -> Bytes {
 /// XORs the bytes.
 #[inline(always)]
 pub fn xor(a: Bytes, b: Bytes) -> Bytes {
-    from_numbers(core::array::from_fn(|i| to_numbers(a)[i] ^ to_numbers(b)[i]))
+    from_numbers(core::array::from_fn(|i| {
+        to_numbers(a)[i] ^ to_numbers(b)[i]
+    }))
 }
 
 /// Returns the bits that both have.
 #[inline(always)]
 pub fn and(a: Bytes, b: Bytes) -> Bytes {
-    from_numbers(core::array::from_fn(|i| to_numbers(a)[i] & to_numbers(b)[i]))
+    from_numbers(core::array::from_fn(|i| {
+        to_numbers(a)[i] & to_numbers(b)[i]
+    }))
 }
 
 /// Returns the bits that either has.
 #[inline(always)]
 pub fn or(a: Bytes, b: Bytes) -> Bytes {
-    from_numbers(core::array::from_fn(|i| to_numbers(a)[i] | to_numbers(b)[i]))
+    from_numbers(core::array::from_fn(|i| {
+        to_numbers(a)[i] | to_numbers(b)[i]
+    }))
 }
 
 /// Adds the words.
@@ -77,7 +83,9 @@ pub fn to_words(bytes: Bytes) -> [u32; 4] {
 /// Returns the vector of these numbers, the least significant byte of each first.
 #[inline(always)]
 pub fn from_numbers(numbers: [u64; 2]) -> Bytes {
-    Bytes(core::array::from_fn(|i| numbers[i / 8].to_le_bytes()[i % 8]))
+    Bytes(core::array::from_fn(|i| {
+        numbers[i / 8].to_le_bytes()[i % 8]
+    }))
 }
 
 /// Returns the numbers.
@@ -155,7 +163,8 @@ impl Level for Arrays {
         let mut found = Bytes([0; 16]);
         for (place, byte) in table.0.into_iter().enumerate() {
             // The mask is 255 for a place that is this one: only then does the difference, less one, fall below zero.
-            let masked = |it: u8, _| (((u16::from(it ^ place as u8)).wrapping_sub(1) >> 8) as u8) & byte;
+            let masked =
+                |it: u8, _| (((u16::from(it ^ place as u8)).wrapping_sub(1) >> 8) as u8) & byte;
             found = or(found, each_byte(places, places, masked));
         }
         found

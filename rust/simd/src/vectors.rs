@@ -197,7 +197,8 @@ impl<V: Level> BitAnd for u8x16<V> {
 /// Returns the number that is at each place, if it is one. The compiler knows it where the vector is a constant.
 #[inline(always)]
 fn same(bytes: [u8; 16]) -> Option<u32> {
-    (u128::from_ne_bytes(bytes) == u128::from_ne_bytes([bytes[0]; 16])).then_some(u32::from(bytes[0]))
+    (u128::from_ne_bytes(bytes) == u128::from_ne_bytes([bytes[0]; 16]))
+        .then_some(u32::from(bytes[0]))
 }
 
 /// Shifts each byte to the left by the number at its place, modulo 8.

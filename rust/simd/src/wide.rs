@@ -67,7 +67,10 @@ impl<V: Level> u64x4<V> {
     /// Returns the number that is at each place, if it is one.
     #[inline(always)]
     fn same(self) -> Option<u32> {
-        let ([a, b], [c, d]) = (self.extract::<0, 2>().to_array(), self.extract::<2, 2>().to_array());
+        let ([a, b], [c, d]) = (
+            self.extract::<0, 2>().to_array(),
+            self.extract::<2, 2>().to_array(),
+        );
         (a == b && a == c && a == d).then_some(a as u32 % 64)
     }
 }

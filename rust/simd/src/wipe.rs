@@ -24,7 +24,9 @@ unsafe impl<T: Plain, const N: usize> Plain for [T; N] {}
 #[inline]
 pub fn wipe<T: Plain>(value: &mut T) {
     // SAFETY: `u8` has an alignment of 1, each byte of the value is initialized, since it has no padding, and zeros are a value.
-    let bytes = unsafe { core::slice::from_raw_parts_mut(core::ptr::from_mut(value).cast::<u8>(), size_of::<T>()) };
+    let bytes = unsafe {
+        core::slice::from_raw_parts_mut(core::ptr::from_mut(value).cast::<u8>(), size_of::<T>())
+    };
     // SAFETY: each eight bytes are a `u64`, and the reverse.
     let (front, numbers, back) = unsafe { bytes.align_to_mut::<u64>() };
     for byte in front.iter_mut().chain(back) {

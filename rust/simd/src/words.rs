@@ -105,7 +105,12 @@ macro_rules! shift {
                     };
                 }
                 let [w, x, y, z] = self.to_array();
-                Self::from_array([$of_words(w, a), $of_words(x, b), $of_words(y, c), $of_words(z, d)])
+                Self::from_array([
+                    $of_words(w, a),
+                    $of_words(x, b),
+                    $of_words(y, c),
+                    $of_words(z, d),
+                ])
             }
         }
     };

@@ -192,7 +192,12 @@ impl Level for Avx2 {
     #[inline(always)]
     fn halves(wide: __m256i) -> (Bytes, Bytes) {
         // SAFETY: as above.
-        unsafe { (_mm256_castsi256_si128(wide), _mm256_extracti128_si256::<1>(wide)) }
+        unsafe {
+            (
+                _mm256_castsi256_si128(wide),
+                _mm256_extracti128_si256::<1>(wide),
+            )
+        }
     }
 
     #[inline(always)]
@@ -243,7 +248,9 @@ macro_rules! has {
 
 #[cold]
 fn ask() -> u8 {
-    let level = if has!("avx2", "bmi1", "bmi2", "fma", "lzcnt", "movbe", "popcnt", "sse4.2", "ssse3") {
+    let level = if has!(
+        "avx2", "bmi1", "bmi2", "fma", "lzcnt", "movbe", "popcnt", "sse4.2", "ssse3"
+    ) {
         AVX2
     } else if has!("popcnt", "sse4.2", "ssse3") {
         SSSE3

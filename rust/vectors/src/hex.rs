@@ -10,8 +10,14 @@ pub fn bytes(word: &str) -> Vec<u8> {
         return Vec::new();
     }
     assert!(word.len().is_multiple_of(2), "{word} has a digit too many");
-    let digits: Vec<u8> = word.chars().map(|digit| digit.to_digit(16).expect("a digit in hex") as u8).collect();
-    digits.chunks(2).map(|pair| 16 * pair[0] + pair[1]).collect()
+    let digits: Vec<u8> = word
+        .chars()
+        .map(|digit| digit.to_digit(16).expect("a digit in hex") as u8)
+        .collect();
+    digits
+        .chunks(2)
+        .map(|pair| 16 * pair[0] + pair[1])
+        .collect()
 }
 
 /// Returns the word for some bytes.

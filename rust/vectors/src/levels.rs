@@ -31,7 +31,14 @@ pub fn run_lower(name: &str) {
     }
     for count in 1..simd::levels().len() {
         let program = std::env::current_exe().expect("the program of the tests");
-        let status = Command::new(program).args(["--skip", name]).env(AT_MOST, count.to_string()).status();
-        assert!(status.expect("a run of the tests").success(), "the tests fail at {}", simd::levels()[count - 1]);
+        let status = Command::new(program)
+            .args(["--skip", name])
+            .env(AT_MOST, count.to_string())
+            .status();
+        assert!(
+            status.expect("a run of the tests").success(),
+            "the tests fail at {}",
+            simd::levels()[count - 1]
+        );
     }
 }

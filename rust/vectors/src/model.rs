@@ -29,7 +29,10 @@ impl Aes {
     pub fn new(key: &[u8]) -> Self {
         let sbox = std::array::from_fn(|byte| sbox(byte as u8));
         let (nk, rounds) = (key.len() / 4, key.len() / 4 + 6);
-        let mut words: Vec<[u8; 4]> = key.chunks(4).map(|word| word.try_into().expect("four bytes")).collect();
+        let mut words: Vec<[u8; 4]> = key
+            .chunks(4)
+            .map(|word| word.try_into().expect("four bytes"))
+            .collect();
         let mut constant = 1;
         for i in nk..4 * (rounds + 1) {
             let mut word = words[i - 1];
@@ -43,7 +46,10 @@ impl Aes {
             }
             words.push(std::array::from_fn(|k| words[i - nk][k] ^ word[k]));
         }
-        let round_keys = words.chunks(4).map(|four| four.concat().try_into().expect("sixteen bytes")).collect();
+        let round_keys = words
+            .chunks(4)
+            .map(|four| four.concat().try_into().expect("sixteen bytes"))
+            .collect();
         Aes { round_keys, sbox }
     }
 
@@ -52,13 +58,15 @@ impl Aes {
         let last = self.round_keys.len() - 1;
         let mut state: [u8; 16] = std::array::from_fn(|i| block[i] ^ self.round_keys[0][i]);
         for (round, key) in self.round_keys.iter().enumerate().skip(1) {
-            let shifted: [u8; 16] = std::array::from_fn(|i| self.sbox[usize::from(state[(i + 4 * (i % 4)) % 16])]);
+            let shifted: [u8; 16] =
+                std::array::from_fn(|i| self.sbox[usize::from(state[(i + 4 * (i % 4)) % 16])]);
             let at = |r: usize, c: usize| shifted[r % 4 + 4 * c];
             let mixed = |i: usize| {
                 let (r, c) = (i % 4, i / 4);
                 times(at(r, c), 2) ^ times(at(r + 1, c), 3) ^ at(r + 2, c) ^ at(r + 3, c)
             };
-            state = std::array::from_fn(|i| key[i] ^ if round == last { shifted[i] } else { mixed(i) });
+            state =
+                std::array::from_fn(|i| key[i] ^ if round == last { shifted[i] } else { mixed(i) });
         }
         state
     }
@@ -93,7 +101,15 @@ fn counter_block(nonce: [u8; 12], number: u32) -> [u8; 16] {
 pub fn gcm_crypted(aes: &Aes, nonce: [u8; 12], message: &[u8]) -> Vec<u8> {
     let stream = |i: usize| aes.encrypt(counter_block(nonce, 2 + i as u32));
     let blocks = message.chunks(16).enumerate();
-    blocks.flat_map(|(i, block)| block.iter().zip(stream(i)).map(|(a, b)| a ^ b).collect::<Vec<_>>()).collect()
+    blocks
+        .flat_map(|(i, block)| {
+            block
+                .iter()
+                .zip(stream(i))
+                .map(|(a, b)| a ^ b)
+                .collect::<Vec<_>>()
+        })
+        .collect()
 }
 
 /// The tag of a ciphertext and an AAD (SP 800-38D section 7.1).
@@ -146,7 +162,11 @@ fn chacha20_block(key: &[u8; 32], number: u32, nonce: [u8; 12]) -> [u8; 64] {
             quarter([i, 4 + (i + 1) % 4, 8 + (i + 2) % 4, 12 + (i + 3) % 4]);
         }
     }
-    let sums: Vec<u8> = x.iter().zip(&state).flat_map(|(a, b)| a.wrapping_add(*b).to_le_bytes()).collect();
+    let sums: Vec<u8> = x
+        .iter()
+        .zip(&state)
+        .flat_map(|(a, b)| a.wrapping_add(*b).to_le_bytes())
+        .collect();
     sums.try_into().expect("64 bytes")
 }
 
@@ -156,7 +176,11 @@ pub fn chacha20(key: &[u8; 32], number: u32, nonce: [u8; 12], message: &[u8]) ->
     blocks
         .flat_map(|(i, block)| {
             let stream = chacha20_block(key, number.wrapping_add(i as u32), nonce);
-            block.iter().zip(stream).map(|(a, b)| a ^ b).collect::<Vec<_>>()
+            block
+                .iter()
+                .zip(stream)
+                .map(|(a, b)| a ^ b)
+                .collect::<Vec<_>>()
         })
         .collect()
 }

@@ -22,9 +22,17 @@ use core::ops::RangeFrom;
 /// it. Neither is overwritten when the call returns, since no contract can say what the memory of a call holds afterwards.
 ///
 /// As AES-GCM, XAES-256-GCM does not commit to the key: a ciphertext and tag can be made that two keys open.
-#[derive(Clone)]
 pub struct Xaes256Gcm {
     expanded: ExpandedKey,
+}
+
+/// Copies the expanded key. Cloning allocates no memory and always succeeds.
+impl Clone for Xaes256Gcm {
+    fn clone(&self) -> Self {
+        Xaes256Gcm {
+            expanded: self.expanded.clone(),
+        }
+    }
 }
 
 impl Xaes256Gcm {
