@@ -202,6 +202,7 @@ fn same(bytes: [u8; 16]) -> Option<u32> {
 }
 
 /// Shifts each byte to the left by the number at its place, modulo 8.
+#[allow(clippy::suspicious_arithmetic_impl)] // a shift is by a number modulo 8
 impl<V: Level> Shl for u8x16<V> {
     type Output = Self;
 
@@ -219,6 +220,7 @@ impl<V: Level> Shl for u8x16<V> {
 }
 
 /// Shifts each byte to the right by the number at its place, modulo 8.
+#[allow(clippy::suspicious_arithmetic_impl)] // a shift is by a number modulo 8
 impl<V: Level> Shr for u8x16<V> {
     type Output = Self;
 
@@ -254,6 +256,7 @@ impl<V: Level> BitAnd for u64x2<V> {
 }
 
 /// Shifts each number to the left by the number at its place, modulo 64.
+#[allow(clippy::suspicious_arithmetic_impl)] // a shift is by a number modulo 64
 impl<V: Level> Shl for u64x2<V> {
     type Output = Self;
 
@@ -270,6 +273,7 @@ impl<V: Level> Shl for u64x2<V> {
 }
 
 /// Shifts each number to the right by the number at its place, modulo 64.
+#[allow(clippy::suspicious_arithmetic_impl)] // a shift is by a number modulo 64
 impl<V: Level> Shr for u64x2<V> {
     type Output = Self;
 

@@ -9,7 +9,7 @@ pub fn bytes(word: &str) -> Vec<u8> {
     if word == "-" {
         return Vec::new();
     }
-    assert!(word.len().is_multiple_of(2), "{word} has a digit too many");
+    assert!(word.len() % 2 == 0, "{word} has a digit too many");
     let digits: Vec<u8> = word
         .chars()
         .map(|digit| digit.to_digit(16).expect("a digit in hex") as u8)
