@@ -261,6 +261,8 @@ def inlined(source, item):
 
 def head_of(item):
     """Returns what names an item in the lists."""
+    if item.kind == "use":
+        return text_of(item.tokens[:-1])
     return text_of(item.tokens[: item.body_start()]).strip() if item.kind == "impl" else f"{item.kind} {item.name}"
 
 

@@ -103,6 +103,7 @@ ADDED = {
     ),
     ("aead_ciphers/lib.rt", "mod session"): Entry('#[cfg(feature = "alloc")]', ALLOC),
     ("aead_ciphers/aead/in_out.rt", "impl InOut for Vec<u8>"): Entry('#[cfg(feature = "alloc")]', ALLOC),
+    ("aead_ciphers/aead/in_out.rt", "use aead_ciphers_base::values::MAX_TAG_LEN"): Entry('#[cfg(feature = "alloc")]', ALLOC),
     ("aead_ciphers/aead/in_out.rt", "trait InOut"): Entry('#[cfg(feature = "alloc")]\nuse alloc::vec::Vec;\n', ALLOC),
     ("aead_ciphers/session.rt", "enum Operation"): Entry("use alloc::vec::Vec;\n", ALLOC),
     ("aead_ciphers_base/aes.rt", "enum KeyBytes"): Entry("#[allow(non_camel_case_types)]", "The names are ring's."),

@@ -1,6 +1,7 @@
 //! Buffers that sealing appends a tag to.
 
 use aead_ciphers_base::error::Unspecified;
+#[cfg(feature = "alloc")]
 use aead_ciphers_base::values::MAX_TAG_LEN;
 
 /// A growable buffer of bytes that is sealed in place: it holds the plaintext before the call, and the ciphertext
