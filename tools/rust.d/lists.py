@@ -163,6 +163,17 @@ REPLACED = [
     ),
 ]
 
+# What `erase.py` and `levels.py` replace by their own code, for README.
+REWRITTEN = [
+    ("std::", "core::", "The packages need no operating system. `std::simd` is the package `simd`."),
+    ("X.as_array::<N>()", "simd::array_of::<_, N>(X)", "Rust 1.85 doesn't have `as_array`, nor `as_mut_array`."),
+    ("X.shuffle(Y, [..])", "X.shuffle(Y, const { simd::Places::new([..]) })", "The compiler computes the places once."),
+    ("#[error(..)]", "an `impl` of `Display` and of `Error`", "The packages don't depend on `thiserror`."),
+    ("u8x16, Word, KeyRef and others", "u8x16<V>, Word<V>, KeyRef<'_, V>", "`V` is the level of the vectors."),
+    ("#[inline(never)] fn", "a call by `V::outlined`", "A function of its own must be compiled for the level."),
+    ("fn", "#[inline(always)] fn", "What jobs reach is compiled for the level only if it is inlined. The files are in `INLINED` of `tools/rust.d/lists.py`."),
+]
+
 # Types of the vectors, whose operations a level chooses.
 VECTORS = {"u8x16", "u64x2", "u64x4"}
 # Types without a vector in them whose methods reach vectors: they have the level as a parameter.

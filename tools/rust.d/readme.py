@@ -53,8 +53,36 @@ def table(head, rows):
     return "\n".join(lines) + "\n"
 
 
+def of_place(place):
+    """Returns the file of an entry and what it names there."""
+    return f"`crates/{place[0].replace('/', '/src/', 1)}`", f"`{' '.join(place[1:2])}`"
+
+
+def tables(counts):
+    """Yields the lists, each with the sentence before it."""
+    rows = [(it.what, counts[name], it.why) for name, it in lists.DELETED.items()]
+    yield "Deleted wherever it stands:", table(("What", "Times", "Why"), rows)
+    rows = [(f"`crates/{file.replace('/', '/src/', 1)}`", why) for file, why in lists.LEFT_OUT_FILES.items()]
+    rows += [(f"{of_place(place)[1]} of {of_place(place)[0]}", why) for place, why in lists.LEFT_OUT_ITEMS.items()]
+    rows += [(f"{of_place(place)[1]} of {of_place(place)[0]}, and its calls", why) for place, why in lists.LAWS.items()]
+    yield "Left out:", table(("What", "Why"), rows)
+    rows = [("each file" if it.file == "*" else of_place((it.file, ""))[0], f"`{' '.join(it.old.split())}`", f"`{' '.join(it.new.split())}`", it.why) for it in lists.REPLACED]
+    rows += [("each file", f"`{old}`", f"`{new}`", why) for old, new, why in lists.REWRITTEN]
+    yield "Replaced:", table(("Where", "What", "By", "Why"), rows)
+    rows = [(f"`{' '.join(it.what.split())}`", f"{'the block of ' if len(place) > 2 else ''}{of_place(place)[1]} of {of_place(place)[0]}", it.why) for place, it in lists.ADDED.items()]
+    yield "Added:", table(("What", "To what", "Why"), rows)
+    rows = [(f"`{path}`", "the import") for path in lists.DROPPED_IMPORTS] + [(f"`{place[1]}`", f"in {of_place(place)[0]}") for place in lists.DROPPED_NAMES]
+    yield "Imports that nothing uses any more:", table(("Name", "Where"), rows)
+    rows = [(f"`{place[2]}`", f"`{place[1]}` of {of_place(place)[0]}", why) for place, why in lists.UNDERSCORED.items()]
+    yield "Parameters that clauses alone read, which get an underscore:", table(("Parameter", "Of", "Why"), rows)
+    rows = [(f"`{owner}`", of_place((file, ""))[0], ", ".join(f"`{name}`" for name in names)) for file, owners in lists.ENTRIES.items() for owner, names in owners.items()]
+    yield "Calls that run as jobs, at the level of the processor:", table(("Type", "Of", "Functions"), rows)
+    rows = [(f"`{name}`", of_place((file, ""))[0], ", ".join(f"`{field}`" for field in fields)) for file, types in lists.WIPED.items() for name, fields in types.items()]
+    yield "Types that are overwritten when they are dropped:", table(("Type", "Of", "Fields"), rows)
+
+
 def with_lists(text, found):
     """Returns the text of rust/README.md with the lists of today."""
     _, counts = used_by(found)
-    deleted = table(("What is deleted", "Times", "Why"), [(it.what, counts[name], it.why) for name, it in lists.DELETED.items()])
-    return MARKS.sub(lambda match: match[1] + "\n" + deleted + "\n" + match[2], text)
+    written = "\n".join(f"{sentence}\n\n{rows}" for sentence, rows in tables(counts))
+    return MARKS.sub(lambda match: f"{match[1]}\n{written}\n{match[2]}", text)
