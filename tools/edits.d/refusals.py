@@ -67,6 +67,10 @@ class Check:
         told = (it for it in self.lines if re.match(r"(?:note: )?\S+:\d+:\d+:", it) and (": error" in it or it.startswith("note: ")))
         return next((it[:160] for it in told if not FOLLOWS.search(it) and not (NAMES.search(it) and "proofs/" in it)), None)
 
+    def error(self):
+        """The first line with an error."""
+        return next((it for it in self.lines if ": error" in it), self.lines[0])[:160]
+
     def unread(self, changed):
         """The first line that says of these files, or of a source or a definition, that it can't be read."""
         for it in UNREAD.finditer(self.printed):
