@@ -41,7 +41,7 @@ class Check:
         something else is refused, and none of a proof that only names what isn't there any more."""
         if self.functions.get(name, "proved").startswith("proved"):
             return []
-        module, function = split(name, self.functions)
+        module, function = split(name)
         closures = f"{module}::fn::{function}::"
         goals = [it for other in self.functions if other == name or other.startswith(closures) for it in self.open_goals(other)]
         folder = name.partition("::")[2].replace("::", "/")
@@ -64,12 +64,17 @@ class Check:
 
     def first(self):
         """The first line that says what is refused and follows from nothing else, or `None`."""
-        told = (it for it in self.lines if re.match(r"(?:note: )?\S+:\d+:\d+:", it) and (": error" in it or it.startswith("note: ")))
+        told = (it for it in self.lines if re.match(r"note: \S+:\d+:\d+:|\S+:\d+:\d+: error", it))
         return next((it[:160] for it in told if not FOLLOWS.search(it) and not (NAMES.search(it) and "proofs/" in it)), None)
 
     def error(self):
         """The first line with an error."""
         return next((it for it in self.lines if ": error" in it), self.lines[0])[:160]
+
+    def only_lacks_names(self):
+        """Whether the errors in proofs that follow from no other all say that a name isn't there."""
+        said = [it[2] for it in ERROR.findall(self.printed) if not FOLLOWS.search(it[2])]
+        return bool(said) and all(NAMES.search(it) for it in said)
 
     def unread(self, changed):
         """The first line that says of these files, or of a source or a definition, that it can't be read."""
@@ -85,7 +90,7 @@ class Check:
         return {(it[1], int(it[2])) for it in re.finditer(r"^(?:\./)?(src/\S+?):(\d+):\d+: error", self.printed, re.M)}
 
 
-def split(name, names):
+def split(name):
     """The module of a function, and its name below."""
     start, _, last = name.rpartition("::")
     above, _, segment = start.rpartition("::")
@@ -101,7 +106,7 @@ SUFFIXES = {"-in_answer": "answer", "-at_loop": "answer", "-by_hand": "proof by 
 
 
 def named(name, comment):
-    """Where an edit's name and its first line say that it is refused: kinds of refusals with clauses, either of which may be empty."""
+    """Where an edit's name and its first line say that it is refused: kinds of refusals with clauses. Either may be empty."""
     found = [(next((kind for suffix, kind in SUFFIXES.items() if name.endswith(suffix)), "goal"), "")]
     for part in re.split(r"[;:] ", comment):
         if part.startswith("before them") or part.startswith("violates") and not part.endswith("goals are refused"):
