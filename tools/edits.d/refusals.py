@@ -101,7 +101,9 @@ def split(name):
 # Where the first line of an edit says that it is refused.
 
 NAME = r"(?!(?:and|at|both|by|for|in|is|of|that|the|then|what|which|whose)\b)\w+"
-MENTION = re.compile(rf"(answers? (?:of|for) |at |)(?:the |both |its )*clauses? ({NAME}(?:(?:, and |, | and ){NAME})*)")
+# What is said of a loop's invariant is said of no goal of the clause.
+PLACE = r"(answers? (?:of|for) |at |(?<!invariant of ))"
+MENTION = re.compile(rf"{PLACE}(?:the |both |its )*\bclauses? ({NAME}(?:(?:, and |, | and ){NAME})*)")
 SUFFIXES = {"-in_answer": "answer", "-at_loop": "answer", "-by_hand": "proof by hand"}
 
 
