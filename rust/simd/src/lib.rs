@@ -3,9 +3,9 @@
 //! This is the one package of Deerlapse with `unsafe` code. The others forbid it, and compute with the vectors of this one:
 //! [`u8x16`], [`u64x2`] and [`u64x4`], whose type parameter is a [`Level`], and [`u32x4`], which each processor has.
 //!
-//! A level stands for instructions that not every processor has. No type that implements [`Level`] has a public name, so the only
-//! code that can name one is a [`Job`], which [`run`] calls after it has asked the processor. So no safe call runs an instruction
-//! that the processor lacks.
+//! A level is a set of instructions that not every processor has. The types that implement [`Level`] have no public names: only a
+//! [`Job`] gets one, as a type parameter, and [`run`] runs the job after it has asked the processor. A safe call therefore never
+//! runs an instruction that the processor lacks.
 //!
 //! ```
 //! /// Looks up four places of a table of 16 bytes.

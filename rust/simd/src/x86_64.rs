@@ -279,6 +279,7 @@ pub fn levels() -> &'static [&'static str] {
 ///
 /// Panics if `count` is zero.
 pub fn at_most(count: usize) {
+    assert_ne!(count, 0);
     let highest = u8::try_from(count - 1).unwrap_or(UNKNOWN);
     LEVEL.store(level().min(highest), Ordering::Relaxed);
 }

@@ -7,7 +7,7 @@ use deerlapse::aead::{
 use deerlapse::chacha;
 use vectors::{hex, levels};
 
-/// The files of lines and of answers.
+/// Returns the lines of the vectors, each with the answer that it must get.
 fn lines() -> Vec<(String, String)> {
     let folder = concat!(env!("CARGO_MANIFEST_DIR"), "/../../crates/test_vectors");
     let read = |name: &str| {

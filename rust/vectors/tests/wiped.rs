@@ -10,7 +10,8 @@ use deerlapse::xaes::Xaes256Gcm;
 /// Returns the bytes that a value leaves in its memory when it is dropped.
 fn left<T>(value: T) -> Vec<u8> {
     let mut place = MaybeUninit::new(value);
-    // SAFETY: the place has a value, which is dropped once, and the bytes that are read aren't padding, or don't matter.
+    // SAFETY: the place holds a value, which is dropped once. The volatile reads stay within the place. They may read padding, of
+    // which the test only asks what the memory holds.
     unsafe {
         place.as_mut_ptr().drop_in_place();
         (0..size_of::<T>())
