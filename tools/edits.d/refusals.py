@@ -47,6 +47,10 @@ class Check:
         folder = name.partition("::")[2].replace("::", "/")
         return [refusal for path, refusal in self.errors() if path == folder] + goals
 
+    def of_each(self, names):
+        """The goals of these functions that are refused for their own bodies."""
+        return [refusal for name in names for refusal in self.of(name)]
+
     def open_goals(self, name):
         found = GOALS.search(self.functions[name])
         return [Refusal("goal", it) for it in re.findall(r"`([^`]+)`", found[1])] if found else []
