@@ -4,9 +4,9 @@ use crate::aead::generic::{OpeningKey, SealingKey};
 use crate::aead::{Aad, NonceSequence};
 use crate::aes_gcm::GcmKey;
 
-/// What a job does.
 use alloc::vec::Vec;
 
+/// What a job does.
 #[derive(Clone, Copy, PartialEq, Eq, Debug)]
 pub enum Operation {
     /// Encrypt the buffer and append the tag.

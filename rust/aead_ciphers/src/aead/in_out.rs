@@ -4,11 +4,11 @@ use aead_ciphers_base::error::Unspecified;
 #[cfg(feature = "alloc")]
 use aead_ciphers_base::values::MAX_TAG_LEN;
 
-/// A growable buffer of bytes that is sealed in place: it holds the plaintext before the call, and the ciphertext
-/// followed by the 16-byte tag after it.
 #[cfg(feature = "alloc")]
 use alloc::vec::Vec;
 
+/// A growable buffer of bytes that is sealed in place: it holds the plaintext before the call, and the ciphertext
+/// followed by the 16-byte tag after it.
 pub trait InOut {
     /// Returns the bytes as a mutable slice.
     ///
