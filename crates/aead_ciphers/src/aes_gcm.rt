@@ -30,7 +30,7 @@ pub mod generic {
     pub use super::key::Key;
 }
 
-/// `generic::Key` over the ciphers of these libraries.
+/// A key of AES-GCM over the ciphers of these libraries. [`generic::Key`] has the methods.
 pub type Key = key::Key<ExpandedKey>;
 
 /// Encrypts `in_out` in place, and returns the 16-byte tag of the ciphertext and `aad` (SP 800-38D section 7.1).

@@ -1,7 +1,8 @@
 //! AES-GCM (SP 800-38D) and QUIC header protection (RFC 9001 section 5.4) under ring's names, and the program
 //! `aeadrun`.
 //!
-//! Read `aead` first, which is the interface for callers, or `docs/guide/RATTLE.md`. `aes_gcm` and `gcm` are the layers below it.
+//! Read `aead` first, which is the interface for callers. `aes_gcm` and `gcm` are the layers below it. The examples are in
+//! plain Rust, over the package `deerlapse` of the folder `rust`. `docs/guide/RATTLE.md` has examples in Rattle.
 #![tactic(auto)]
 
 pub mod aead;

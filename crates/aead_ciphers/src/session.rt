@@ -29,6 +29,18 @@ pub enum Outcome {
 }
 
 /// One call with a key, and its outcome.
+///
+/// # Examples
+///
+/// A job that opens a packet after its header of 4 bytes, which is the AAD:
+///
+/// ```
+/// use deerlapse::session::{Job, Operation, Outcome};
+///
+/// let packet = vec![7; 4 + 5 + 16]; // the header, the ciphertext and the tag
+/// let job = Job::new(Operation::Open(4), packet[..4].to_vec(), packet);
+/// assert_eq!(job.outcome, Outcome::Refused); // it hasn't been run yet
+/// ```
 #[derive(Drop)]
 pub struct Job {
     /// What the job does.
@@ -90,37 +102,30 @@ impl Job {
 ///
 /// # Examples
 ///
-/// Two of five jobs succeed, since the sealing key has two nonces, whatever its expanded key is.
-/// From `crates/aead_ciphers_wide_tests/src/tests/session.rt`:
+/// The sealing key has two nonces, so it refuses the third message:
 ///
 /// ```
-/// fn twice<K: GcmKey>(rt: &impl Abort, alloc: Global, case: &Case) -> Result<(), Fail> {
-///     let mut jobs = five_jobs(alloc)?;
-///     run(
-///         &mut sealing::<K>(case, 2)?,
-///         &mut opening::<K>(case, 0)?,
-///         &mut jobs,
-///     );
-///     sealed_so_many(rt, &jobs, 2);
-///     Ok(())
-/// }
-/// ```
+/// use deerlapse::aead::{
+///     AES_128_GCM, BoundKey, CounterSequence, OpeningKey, SealingKey, UnboundKey, Unspecified,
+/// };
+/// use deerlapse::session::{Job, Operation, Outcome, run};
 ///
-/// A caller that runs two lists states that no nonce of either is used twice.
-/// From `crates/aead_ciphers_wide_tests/src/tests/examples/session.rt`:
+/// let key = || UnboundKey::new(&AES_128_GCM, &[7; 16]); // not a real key
+/// let sequence = || CounterSequence::new([1, 2, 3, 4], 0, 2);
+/// let mut sealing = SealingKey::new(key()?, sequence()?);
+/// let mut opening = OpeningKey::new(key()?, sequence()?);
 ///
-/// ```
-/// pub fn run_both<K: GcmKey, L: GcmKey, S: NonceSequence, O: NonceSequence>(
-///     sealing: &mut SealingKey<K, S>,
-///     opening: &mut OpeningKey<L, O>,
-///     first: &mut [Job],
-///     second: &mut [Job],
-/// )
-///     ensures no_nonce_twice { GrewFresh (S.spent sealing.old.sequence) (S.spent sealing.new.sequence) }
-/// {
-///     run(sealing, opening, first);
-///     run(sealing, opening, second);
-/// }
+/// let job = || Job::new(Operation::Seal, Vec::new(), b"hello".to_vec());
+/// let mut jobs = [job(), job(), job()];
+/// run(&mut sealing, &mut opening, &mut jobs);
+/// let outcomes = jobs.each_ref().map(|job| job.outcome);
+/// assert_eq!(outcomes, [Outcome::Sealed, Outcome::Sealed, Outcome::Refused]);
+///
+/// jobs[0].operation = Operation::Open(0);
+/// run(&mut sealing, &mut opening, &mut jobs[..1]);
+/// assert_eq!(jobs[0].outcome, Outcome::Opened(5));
+/// assert!(jobs[0].buffer.starts_with(b"hello"));
+/// # Ok::<(), Unspecified>(())
 /// ```
 #[tactic(auto, using(crate::proofs::FreshLemmas::fresh_run))]
 pub fn run<K: GcmKey, L: GcmKey, S: NonceSequence, O: NonceSequence>(

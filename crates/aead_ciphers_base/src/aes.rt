@@ -54,6 +54,19 @@ pub type Block = [u8; BLOCK_LEN];
 pub const ZERO_BLOCK: Block = [0; BLOCK_LEN];
 
 /// The bytes of an AES key, whose length selects AES-128 or AES-256.
+///
+/// # Examples
+///
+/// ```
+/// use deerlapse::aead::Unspecified;
+/// use deerlapse::aes_gcm::KeyBytes;
+///
+/// let bytes = [7; 32]; // not a real key
+/// assert!(matches!(KeyBytes::from_slice(&bytes)?, KeyBytes::AES_256(_)));
+/// assert!(matches!(KeyBytes::from_slice(&bytes[..16])?, KeyBytes::AES_128(_)));
+/// assert!(KeyBytes::from_slice(&bytes[..24]).is_err());
+/// # Ok::<(), Unspecified>(())
+/// ```
 #[derive(Clone, Copy)]
 pub enum KeyBytes<'a> {
     /// The 16 bytes of an AES-128 key.
@@ -91,15 +104,19 @@ impl<'a> KeyBytes<'a> {
 ///
 /// # Examples
 ///
-/// CMAC of one block, under a key whose first subkey is kept. From `crates/xaes/src/cmac.rt`:
+/// The example of FIPS 197 appendix B:
 ///
 /// ```
-/// fn mac_of_block(&self, block: Block) -> Block
-///     ensures { result ≡ cmac_of_block self.now block }
-/// {
-///     self.cipher
-///         .encrypt_block(bb::xor_16(self.subkey, block), &mut Work::new())
-/// }
+/// use aead_ciphers_base::aes::{EncryptBlock, Key, KeyBytes, Work};
+/// use aead_ciphers_base::error::Unspecified;
+///
+/// let bytes = 0x2b7e151628aed2a6abf7158809cf4f3c_u128.to_be_bytes();
+/// let key = Key::new(KeyBytes::AES_128(&bytes))?;
+///
+/// let block = 0x3243f6a8885a308d313198a2e0370734_u128.to_be_bytes();
+/// let encrypted = key.encrypt_block(block, &mut Work::new());
+/// assert_eq!(encrypted, 0x3925841d02dc09fbdc118597196a0b32_u128.to_be_bytes());
+/// # Ok::<(), Unspecified>(())
 /// ```
 pub trait EncryptBlock {
     // The block cipher: from the key and a block to the encrypted block.
@@ -125,10 +142,10 @@ pub trait EncryptBlock {
     ghost length_cipher: { (key : Self) (block : List ℕ) → length block ≡ 16 → length (cipher key block) ≡ 16 };
 }
 
-/// A slice of bytes that is read from `start` on and written from the front on.
+/// A slice of bytes that is read from `start` on and written from the front on. [`overlapping::Overlapping`] has the methods.
 pub type Overlapping<'o> = overlapping::Overlapping<'o, u8>;
 
-/// An `Overlapping` whose input is shorter than a block of 16 bytes.
+/// An `Overlapping` whose input is shorter than a block of 16 bytes. [`overlapping::PartialBlock`] has the methods.
 pub type OverlappingPartialBlock<'o> = overlapping::PartialBlock<'o, u8, BLOCK_LEN>;
 
 /// Counter mode over a block cipher under a key (GCTR, SP 800-38D section 6.5).
@@ -151,12 +168,17 @@ pub trait EncryptCtr32: EncryptBlock {
 ///
 /// # Examples
 ///
-/// From `crates/aead_ciphers_base_tests/src/tests/aes.rt`:
+/// The mask of RFC 9001 appendix A.2:
 ///
 /// ```
-/// fn expanded(key: &[u8]) -> Result<Key, Fail> {
-///     Ok(Key::new(KeyBytes::from_slice(key)?)?)
-/// }
+/// use aead_ciphers_base::aes::{Key, KeyBytes};
+/// use aead_ciphers_base::error::Unspecified;
+///
+/// let bytes = 0x9f50449e04a0e810283a1e9933adedd2_u128.to_be_bytes();
+/// let sample = 0xd1b1c98dd7689fb8ec11d242b123dc9b_u128.to_be_bytes();
+/// let key = Key::new(KeyBytes::from_slice(&bytes)?)?;
+/// assert_eq!(key.new_mask(sample), [0x43, 0x7b, 0x9a, 0xec, 0x36]);
+/// # Ok::<(), Unspecified>(())
 /// ```
 #[derive(Clone, Drop)]
 pub struct Key {

@@ -24,7 +24,19 @@ pub const BLOCK_LEN: usize = 64;
 /// The length of four blocks, in bytes.
 const BATCH_LEN: usize = 4 * BLOCK_LEN;
 
-/// A slice of bytes that is read from `start` on and written from the front on.
+/// A slice of bytes that is read from `start` on and written from the front on. [`overlapping::Overlapping`] has the methods.
+///
+/// # Examples
+///
+/// ```
+/// use deerlapse::chacha::Overlapping;
+/// use deerlapse::error::IndexError;
+///
+/// let mut packet = *b"header, text";
+/// let in_out = Overlapping::new(&mut packet, 8..)?;
+/// assert_eq!(in_out.input(), b"text");
+/// # Ok::<(), IndexError>(())
+/// ```
 pub type Overlapping<'o> = overlapping::Overlapping<'o, u8>;
 
 type State = [u32; 16];
@@ -77,6 +89,19 @@ fn xor_stream<const N: usize>(
 }
 
 /// A block counter and a nonce: the position at which a keystream starts.
+///
+/// # Examples
+///
+/// The last four words of the state of RFC 8439 section 2.3.2:
+///
+/// ```
+/// use deerlapse::aead::Nonce;
+/// use deerlapse::chacha::Counter;
+///
+/// let nonce = Nonce::assume_unique_for_key([0, 0, 0, 9, 0, 0, 0, 0x4a, 0, 0, 0, 0]);
+/// let counter = Counter::from_nonce_and_ctr(nonce, 1);
+/// assert_eq!(counter.into_words_less_safe(), [1, 0x09000000, 0x4a000000, 0]);
+/// ```
 #[derive(Drop)]
 pub struct Counter {
     words: [u32; 4],
@@ -128,6 +153,29 @@ impl Counter {
 }
 
 /// A ChaCha20 key of 32 bytes.
+///
+/// # Examples
+///
+/// The beginning of the example of RFC 8439 section 2.4.2:
+///
+/// ```
+/// use deerlapse::aead::Nonce;
+/// use deerlapse::chacha::{Counter, Key, Overlapping};
+///
+/// let key = Key::new(std::array::from_fn(|i| i as u8));
+/// let counter = || {
+///     let nonce = Nonce::assume_unique_for_key([0, 0, 0, 0, 0, 0, 0, 0x4a, 0, 0, 0, 0]);
+///     Counter::from_nonce_and_ctr(nonce, 1)
+/// };
+///
+/// let mut text = *b"Ladies and Gentlemen";
+/// key.encrypt(counter(), Overlapping::from(&mut text[..]));
+/// assert_eq!(text[..8], [0x6e, 0x2e, 0x35, 0x9a, 0x25, 0x68, 0xf9, 0x80]);
+///
+/// // The same call decrypts.
+/// key.encrypt(counter(), Overlapping::from(&mut text[..]));
+/// assert_eq!(&text, b"Ladies and Gentlemen");
+/// ```
 #[derive(Clone, Drop)]
 pub struct Key {
     words: [u32; 8],
@@ -164,21 +212,6 @@ impl Key {
     ///
     /// The output is as long as the input. The bytes after it are unchanged. The number of the last
     /// block must be below 2^32.
-    ///
-    /// # Examples
-    ///
-    /// From `crates/aead_ciphers_tests/src/tests/examples/streams.rt`:
-    ///
-    /// ```
-    /// pub fn xor_stream(key: [u8; chacha::KEY_LEN], nonce: [u8; NONCE_LEN], message: &mut [u8])
-    ///     requires { 1 + div_ceil (length message.old) 64 ≤ 2 ^ 32 }
-    ///     ensures { message.new ≡ chacha20_encrypted key 1 nonce message.old }
-    /// {
-    ///     let nonce = Nonce::assume_unique_for_key(nonce);
-    ///     let counter = chacha::Counter::from_nonce_and_ctr(nonce, 1);
-    ///     chacha::Key::new(key).encrypt(counter, Overlapping::from(message));
-    /// }
-    /// ```
     pub fn encrypt(&self, counter: Counter, in_out: Overlapping<'_>)
         requires { counter.number + div_ceil (input_len in_out) 64 ≤ 2 ^ 32 }
         ensures { let input = input_of in_out.entry in

@@ -36,6 +36,17 @@ pub use round_keys::{RoundKeys, RoundPlanes, write_planes};
 
 /// The width of the planes on which a key encrypts batches of blocks. No result depends on it, so no contract says which width
 /// a key has, except that of `ExpandedKey::expand_with_width`: a key of another width would only be slower.
+///
+/// # Examples
+///
+/// ```
+/// use deerlapse::aes_gcm::{ExpandedKey, GcmKey, KeyBytes, Width, Work};
+///
+/// let bytes = [7; 16]; // not a real key
+/// let mut key = ExpandedKey::zeros();
+/// key.expand_with_width(KeyBytes::AES_128(&bytes), Width::Bits256, &mut Work::new());
+/// assert_eq!(key.width, Width::Bits256.bits());
+/// ```
 #[derive(Clone, Copy)]
 pub enum Width {
     /// Eight blocks on planes of 128 bits. The faster where vectors have 128 bits, such as SSE2 and NEON.

@@ -29,6 +29,25 @@ use std::ops::RangeFrom;
 ///
 /// Sealing and opening require the fields to be as `expand` left them, and only read them, so many threads may use a
 /// key at once.
+///
+/// # Examples
+///
+/// ```
+/// use deerlapse::aead::{Aad, Nonce, Unspecified};
+/// use deerlapse::aes_gcm::{ExpandedKey, GcmKey, KeyBytes, Work};
+///
+/// let bytes = [7; 16]; // not a real key
+/// let mut key = ExpandedKey::zeros();
+/// key.expand(KeyBytes::AES_128(&bytes), &mut Work::new());
+/// assert!(key.is_of(&bytes));
+///
+/// let nonce = || Nonce::assume_unique_for_key([1; 12]); // another for each message
+/// let mut message = *b"hello";
+/// let tag = key.seal(nonce(), Aad::empty(), &mut message, &mut Work::new())?;
+/// let len = key.open(nonce(), Aad::empty(), tag, &mut message, 0.., &mut Work::new())?;
+/// assert_eq!(&message[..len], b"hello");
+/// # Ok::<(), Unspecified>(())
+/// ```
 #[repr(C)]
 #[derive(Clone, Drop)]
 pub struct ExpandedKey {

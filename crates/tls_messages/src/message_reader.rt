@@ -23,13 +23,25 @@ use std::marker::Model;
 ///
 /// # Examples
 ///
-/// Takes the messages of one record: `handle` follows a KeyUpdate, and appends another message.
-/// From `crates/records/src/connection/receiving.rt`:
+/// A message that is cut over two records, and a KeyUpdate after it in the second record:
 ///
 /// ```
-/// while let Some(message) = messages.next(&mut content)? {
-///     handle_message(alloc, incoming, message, handed)?;
-/// }
+/// use deerlapse::tls_messages::message_type::{KEY_UPDATE, NEW_SESSION_TICKET};
+/// use deerlapse::tls_messages::{MessageError, MessageReader, Stage};
+///
+/// let mut buffer = [0; 4096];
+/// let mut messages = MessageReader::new(&mut buffer, Stage::Client);
+///
+/// let mut content = &[NEW_SESSION_TICKET, 0, 0, 3, 1][..];
+/// assert_eq!(messages.next(&mut content)?, None);
+/// assert!(messages.is_cut());
+///
+/// let mut content = &[2, 3, KEY_UPDATE, 0, 0, 1, 0][..];
+/// let ticket = [NEW_SESSION_TICKET, 0, 0, 3, 1, 2, 3];
+/// assert_eq!(messages.next(&mut content)?, Some(&ticket[..]));
+/// assert_eq!(messages.next(&mut content)?, Some(&[KEY_UPDATE, 0, 0, 1, 0][..]));
+/// assert_eq!(messages.next(&mut content)?, None);
+/// # Ok::<(), MessageError>(())
 /// ```
 #[derive(Drop)]
 pub struct MessageReader<'b> {
@@ -84,18 +96,22 @@ impl<'b> MessageReader<'b> {
     ///
     /// # Examples
     ///
-    /// Takes the next message of a server's handshake, and continues after the handshake if it is the Finished.
-    /// From `crates/records_tests/src/tests/examples/handshake_messages.rt`:
+    /// The Finished of a server ends the handshake:
     ///
     /// ```
-    /// let Some(message) = messages.next(content)? else {
-    ///     return Ok(false);
-    /// };
-    /// if message[0] != FINISHED {
-    ///     return Ok(false);
+    /// use deerlapse::tls_messages::message_type::FINISHED;
+    /// use deerlapse::tls_messages::{MessageError, MessageReader, Stage};
+    ///
+    /// let mut buffer = [0; 4096];
+    /// let mut messages = MessageReader::new(&mut buffer, Stage::Handshake);
+    /// let mut content = &[FINISHED, 0, 0, 2, 7, 7][..];
+    /// while let Some(message) = messages.next(&mut content)? {
+    ///     if message[0] == FINISHED {
+    ///         messages.set_stage(Stage::Client);
+    ///     }
     /// }
-    /// messages.set_stage(Stage::Client);
-    /// Ok(true)
+    /// assert_eq!(messages.stage(), Stage::Client);
+    /// # Ok::<(), MessageError>(())
     /// ```
     pub fn set_stage(&mut self, stage: Stage)
         ensures { self.new ≡ record self.old { stage = stage } }

@@ -12,6 +12,17 @@ use crate::message_type::{
 
 /// A stage of a connection at one endpoint, which decides which messages the endpoint may receive. The stages whose names begin
 /// with `Quic` are for the CRYPTO frames of QUIC.
+///
+/// # Examples
+///
+/// ```
+/// use deerlapse::tls_messages::Stage;
+/// use deerlapse::tls_messages::message_type::{KEY_UPDATE, NEW_SESSION_TICKET};
+///
+/// assert!(Stage::Client.allows(NEW_SESSION_TICKET));
+/// assert!(!Stage::Server.allows(NEW_SESSION_TICKET));
+/// assert!(!Stage::QuicClient.allows(KEY_UPDATE)); // RFC 9001 section 6
+/// ```
 #[derive(Clone, Copy, Debug, PartialEq, Eq)]
 pub enum Stage {
     /// The handshake: every message but a KeyUpdate, which must not precede the Finished (RFC 8446 section 4.6.3). The caller

@@ -23,6 +23,24 @@ use std::ops::RangeFrom;
 ///
 /// Sealing and opening require the fields to be as `expand` left them, and only read them, so many threads may use a key at
 /// once. The key that a call derives for its message, and its expansion, stay in the memory of the call.
+///
+/// # Examples
+///
+/// ```
+/// use deerlapse::aead::{Aad, Unspecified};
+/// use deerlapse::aes_gcm::Width;
+/// use deerlapse::xaes::{ExpandedKey, XNonce};
+///
+/// let mut key = ExpandedKey::zeros();
+/// key.expand(&[7; 32], Width::Bits128); // not a real key
+///
+/// let nonce = || XNonce::assume_unique_for_key([1; 24]); // another for each message
+/// let (mut sealed, mut opened) = ([0; 5], [0; 5]);
+/// let tag = key.seal_to(nonce(), Aad::empty(), b"hello", &mut sealed)?;
+/// key.open_to(nonce(), Aad::empty(), tag, &sealed, &mut opened)?;
+/// assert_eq!(&opened, b"hello");
+/// # Ok::<(), Unspecified>(())
+/// ```
 #[repr(C)]
 #[derive(Clone, Drop)]
 pub struct ExpandedKey {

@@ -34,21 +34,23 @@ use std::ops::RangeFrom;
 ///
 /// # Examples
 ///
-/// From `crates/xaes_tests/src/tests/examples/random_nonces.rt`:
+/// The key, the nonce and the message of a vector of the specification:
 ///
 /// ```
-/// pub fn seal(
-///     key: &Xaes256Gcm,
-///     random: [u8; XAES_NONCE_LEN],
-///     aad: &[u8],
-///     message: &mut Vec<u8>,
-/// ) -> Result<(), Unspecified>
-///     ensures sealed { OnOk result (message.new.items ≡ xaes_sealed key.now random aad.now message.old.items) }
-///     ensures refused { OnErr result (message.new.items ≡ message.old.items) }
-/// {
-///     let nonce = XNonce::assume_unique_for_key(random);
-///     key.seal_in_place_append_tag(nonce, Aad::from(aad), message)
-/// }
+/// use deerlapse::aead::{Aad, Unspecified};
+/// use deerlapse::xaes::{XNonce, Xaes256Gcm};
+///
+/// let key = Xaes256Gcm::new(&[1; 32]); // a real key is drawn at random and kept secret
+/// let nonce = || XNonce::assume_unique_for_key(*b"ABCDEFGHIJKLMNOPQRSTUVWX");
+///
+/// let mut message = b"XAES-256-GCM".to_vec();
+/// key.seal_in_place_append_tag(nonce(), Aad::empty(), &mut message)?;
+/// let ciphertext = [0xce, 0x54, 0x6e, 0xf6, 0x3c, 0x9c, 0xc6, 0x07, 0x65, 0x92, 0x36, 0x09];
+/// assert_eq!(message[..12], ciphertext);
+///
+/// let len = key.open_in_place_to_front(nonce(), Aad::empty(), &mut message)?;
+/// assert_eq!(&message[..len], b"XAES-256-GCM");
+/// # Ok::<(), Unspecified>(())
 /// ```
 #[derive(Drop)]
 pub struct Xaes256Gcm {

@@ -8,15 +8,24 @@ use std::fmt;
 ///
 /// # Examples
 ///
-/// Creates the keys of both directions. From `crates/aead_ciphers/src/aeadrun/calls.rt`:
+/// The keys of both directions of a connection:
 ///
 /// ```
-/// let sealing = UnboundKey::new(algorithm, key)?;
-/// let opening = UnboundKey::new(algorithm, key)?;
-/// Ok(Keys {
-///     sealing: SealingKey::new(sealing, CounterSequence::new(prefix, first, count)?),
-///     opening: OpeningKey::new(opening, CounterSequence::new(prefix, first, count)?),
-/// })
+/// use deerlapse::aead::{
+///     AES_128_GCM, BoundKey, CounterSequence, OpeningKey, SealingKey, UnboundKey, Unspecified,
+/// };
+///
+/// fn bound<K: BoundKey<CounterSequence>>(bytes: &[u8; 16]) -> Result<K, Unspecified> {
+///     let sequence = CounterSequence::new([1, 2, 3, 4], 0, 1 << 32)?;
+///     Ok(K::new(UnboundKey::new(&AES_128_GCM, bytes)?, sequence))
+/// }
+///
+/// // Not real keys. In a connection each direction has one of its own.
+/// let sealing: SealingKey<_> = bound(&[7; 16])?;
+/// let opening: OpeningKey<_> = bound(&[8; 16])?;
+/// assert_eq!(sealing.algorithm(), &AES_128_GCM);
+/// assert_eq!(format!("{opening:?}"), "OpeningKey { algorithm: AES_128_GCM }");
+/// # Ok::<(), Unspecified>(())
 /// ```
 pub trait BoundKey<N: NonceSequence>: fmt::Debug {
     ghost use Rattle.aead_ciphers.specs.AeadKey.{AeadKey};

@@ -11,22 +11,14 @@ use std::marker::Model;
 ///
 /// # Examples
 ///
-/// `gives` asserts the next nonce, or with `None` that none is left.
-/// From `crates/aead_ciphers_tests/src/tests/sequences.rt`:
-///
 /// ```
+/// use deerlapse::aead::{CounterSequence, NonceSequence, Unspecified};
+///
 /// let mut sequence = CounterSequence::new([1, 2, 3, 4], 0x05060708090a0bff, 2)?;
-/// gives(
-///     &rt,
-///     &mut sequence,
-///     Some(&[1, 2, 3, 4, 5, 6, 7, 8, 9, 10, 11, 255]),
-/// );
-/// gives(
-///     &rt,
-///     &mut sequence,
-///     Some(&[1, 2, 3, 4, 5, 6, 7, 8, 9, 10, 12, 0]),
-/// );
-/// gives(&rt, &mut sequence, None);
+/// assert_eq!(sequence.advance()?.as_ref(), &[1, 2, 3, 4, 5, 6, 7, 8, 9, 10, 11, 255]);
+/// assert_eq!(sequence.advance()?.as_ref(), &[1, 2, 3, 4, 5, 6, 7, 8, 9, 10, 12, 0]);
+/// assert!(sequence.advance().is_err());
+/// # Ok::<(), Unspecified>(())
 /// ```
 #[derive(Drop)]
 pub struct CounterSequence {

@@ -25,27 +25,7 @@ use std::ops::RangeFrom;
 /// An AEAD key whose calls take the nonce as an argument. It is the caller's responsibility that no nonce is used twice
 /// under one key (SP 800-38D section 8).
 ///
-/// # Examples
-///
-/// From `crates/aead_ciphers_tests/src/tests/examples/one_message.rt`:
-///
-/// ```
-/// pub fn seal(
-///     key_bytes: &[u8; 32],
-///     nonce: [u8; NONCE_LEN],
-///     aad: &[u8],
-///     in_out: &mut [u8],
-/// ) -> Result<Tag, Unspecified>
-///     ensures accepted { IsOk result ↔ Fits (length aad.now) (length in_out.old) }
-///     ensures ciphertext { OnOk result (in_out.new ≡ gcm_encrypted (aes key_bytes.now) nonce in_out.old) }
-///     ensures tag { IfOk result (λ tag. tag ≡ gcm_tag (aes key_bytes.now) nonce aad.now in_out.new) }
-///     ensures refused { OnErr result (in_out.new ≡ in_out.old) }
-/// {
-///     let key = LessSafeKey::new(UnboundKey::new(&AES_256_GCM, key_bytes)?);
-///     let nonce = Nonce::assume_unique_for_key(nonce);
-///     key.seal_in_place_separate_tag(nonce, Aad::from(aad), in_out)
-/// }
-/// ```
+/// Programs name it by an alias over a cipher, such as `aead_ciphers_wide::aead::LessSafeKey`, which has an example.
 #[derive(Drop)]
 pub struct LessSafeKey<K: GcmKey> {
     key: K,

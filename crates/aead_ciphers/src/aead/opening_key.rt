@@ -18,21 +18,7 @@ use std::ops::RangeFrom;
 
 /// An AEAD key for opening that is bound to a nonce sequence: each call uses the next nonce. It cannot be cloned.
 ///
-/// # Examples
-///
-/// Creates a key that counts its nonces. From `crates/aead_ciphers_tests/src/tests/examples/connection.rt`:
-///
-/// ```
-/// let sequence = CounterSequence::new(prefix, 0, NONCES)?;
-/// Ok(OpeningKey::new(UnboundKey::new(algorithm, key_bytes)?, sequence))
-/// ```
-///
-/// Opens the next message. A rejected message consumes its nonce too.
-/// From `crates/aead_ciphers_tests/src/tests/examples/connection.rt`:
-///
-/// ```
-/// key.open_in_place_to_front(Aad::from(aad), message)
-/// ```
+/// Programs name it by an alias over a cipher, such as `aead_ciphers_wide::aead::OpeningKey`, which has an example.
 #[derive(Drop)]
 pub struct OpeningKey<K: GcmKey, N> {
     key: LessSafeKey<K>,

@@ -81,19 +81,6 @@ impl Algorithm {
 }
 
 /// A header protection key with its algorithm.
-///
-/// # Examples
-///
-/// From `crates/aead_ciphers_tests/src/tests/examples/streams.rt`:
-///
-/// ```
-/// pub fn mask(key_bytes: &[u8; 16], sample: &Sample) -> Result<[u8; 5], Unspecified>
-///     ensures accepted { IsOk result }
-///     ensures mask { IfOk result (λ mask. mask ≡ aes_mask key_bytes.now sample.now) }
-/// {
-///     HeaderProtectionKey::new(&quic::AES_128, key_bytes)?.new_mask(sample)
-/// }
-/// ```
 #[derive(Drop)]
 pub struct HeaderProtectionKey {
     inner: KeyInner,

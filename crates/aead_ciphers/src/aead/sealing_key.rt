@@ -15,27 +15,7 @@ use std::marker::Model;
 
 /// An AEAD key for sealing that is bound to a nonce sequence: each call uses the next nonce. It cannot be cloned.
 ///
-/// # Examples
-///
-/// From `crates/aead_ciphers_tests/src/tests/examples/connection.rt`:
-///
-/// ```
-/// pub fn send_apart(
-///     key: &mut SealingKey<CounterSequence>,
-///     message: &mut [u8],
-/// ) -> Result<Tag, Unspecified>
-///     requires { length message.old ≤ 1000000 }
-///     ensures accepted { IsOk result ↔ (key.old.sequence.used < key.old.sequence.count) }
-///     ensures counted { OnOk result (key.new ≡ advanced key.old) }
-///     ensures ciphertext { OnOk result (message.new ≡ gcm_encrypted (aes key.old.key.bytes)
-///         (next_nonce prefixed_nonce key.old.sequence) message.old) }
-///     ensures tag { IfOk result (λ tag. tag ≡ gcm_tag (aes key.old.key.bytes)
-///         (next_nonce prefixed_nonce key.old.sequence) [] message.new) }
-///     ensures refused { OnErr result ((key.new ≡ key.old) × (message.new ≡ message.old)) }
-/// {
-///     key.seal_in_place_separate_tag(Aad::empty(), message)
-/// }
-/// ```
+/// Programs name it by an alias over a cipher, such as `aead_ciphers_wide::aead::SealingKey`, which has an example.
 #[derive(Drop)]
 pub struct SealingKey<K: GcmKey, N> {
     key: LessSafeKey<K>,

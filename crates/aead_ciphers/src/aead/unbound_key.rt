@@ -12,6 +12,18 @@ use std::marker::Model;
 
 /// An AEAD key without a role or a nonce sequence. It holds the key bytes, which are expanded when it becomes a
 /// `LessSafeKey`, a `SealingKey` or an `OpeningKey`.
+///
+/// # Examples
+///
+/// ```
+/// use deerlapse::aead::{AES_128_GCM, AES_256_GCM, UnboundKey, Unspecified};
+///
+/// let bytes = [7; 32]; // not a real key
+/// let key = UnboundKey::new(&AES_256_GCM, &bytes)?;
+/// assert_eq!(key.algorithm(), &AES_256_GCM);
+/// assert!(UnboundKey::new(&AES_128_GCM, &bytes).is_err());
+/// # Ok::<(), Unspecified>(())
+/// ```
 #[derive(Drop)]
 pub struct UnboundKey {
     algorithm: &'static Algorithm,

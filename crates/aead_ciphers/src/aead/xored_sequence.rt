@@ -12,19 +12,19 @@ use std::marker::Model;
 ///
 /// # Examples
 ///
-/// The nonces of RFC 9001 appendix A.5. From `crates/aead_ciphers_tests/src/tests/sequences.rt`:
+/// The nonce of RFC 9001 appendix A.5:
 ///
 /// ```
-/// fn rfc_9001_a_5_nonce(rt: HostRuntime) -> Result<(), Fail> {
-///     let nonce = nonce_of(&IV, NUMBER);
-///     same(&rt, nonce.as_ref(), &NONCE, "of the number");
-///     let mut sequence = XoredSequence::new(IV, NUMBER, NUMBER + 2)?;
-///     gives(&rt, &mut sequence, Some(&NONCE));
-///     gives(&rt, &mut sequence, Some(&NEXT_NONCE));
-///     gives(&rt, &mut sequence, None);
-///     gives(&rt, &mut sequence, None);
-///     Ok(())
-/// }
+/// use deerlapse::aead::{NonceSequence, Unspecified, XoredSequence, nonce_of};
+///
+/// let iv = [0xe0, 0x45, 0x9b, 0x34, 0x74, 0xbd, 0xd0, 0xe4, 0x4a, 0x41, 0xc1, 0x44];
+/// let nonce = [0xe0, 0x45, 0x9b, 0x34, 0x74, 0xbd, 0xd0, 0xe4, 0x6d, 0x41, 0x7e, 0xb0];
+///
+/// let mut sequence = XoredSequence::new(iv, 654360564, 654360565)?;
+/// assert_eq!(sequence.advance()?.as_ref(), &nonce);
+/// assert!(sequence.advance().is_err());
+/// assert_eq!(nonce_of(&iv, 654360564).as_ref(), &nonce);
+/// # Ok::<(), Unspecified>(())
 /// ```
 #[derive(Drop)]
 pub struct XoredSequence {

@@ -9,6 +9,23 @@ use std::marker::Model;
 /// section 6.3).
 ///
 /// A call that counts requires that the sums fit in 64 bits. `has_room` suffices for one seal or open.
+///
+/// # Examples
+///
+/// ```
+/// use deerlapse::aead::{Aad, Nonce, Unspecified};
+/// use deerlapse::aes_gcm::{ExpandedKey, GcmKey, KeyBytes, Work};
+///
+/// let mut key = ExpandedKey::zeros();
+/// key.expand(KeyBytes::AES_128(&[7; 16]), &mut Work::new()); // not a real key
+///
+/// let mut work = Work::new();
+/// let nonce = Nonce::assume_unique_for_key([1; 12]);
+/// let _tag = key.seal(nonce, Aad::empty(), &mut [2; 32], &mut work)?;
+/// assert_eq!(work.blocks(), 3); // two of the message, and one of the tag
+/// assert_eq!(work.products(), 3); // two of the ciphertext, and one of the lengths
+/// # Ok::<(), Unspecified>(())
+/// ```
 #[derive(Drop)]
 pub struct Work {
     blocks: u64,

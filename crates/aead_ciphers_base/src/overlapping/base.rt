@@ -11,16 +11,15 @@ use std::ops::RangeFrom;
 ///
 /// # Examples
 ///
-/// From `crates/aead_ciphers_base_tests/src/tests/overlapping.rt`:
-///
 /// ```
-/// fn copy_within_moves_the_input_to_the_front(rt: HostRuntime) -> Result<(), Fail> {
-///     let mut items = [1u8, 2, 3, 4, 5, 6];
-///     let front = Overlapping::new(&mut items, 2..)?.copy_within();
-///     same(&rt, front, &[3, 4, 5, 6], "the front");
-///     same(&rt, &items, &[3, 4, 5, 6, 5, 6], "the slice");
-///     Ok(())
-/// }
+/// use aead_ciphers_base::error::IndexError;
+/// use aead_ciphers_base::overlapping::Overlapping;
+///
+/// let mut items = [1, 2, 3, 4, 5, 6];
+/// let front = Overlapping::new(&mut items, 2..)?.copy_within();
+/// assert_eq!(front, [3, 4, 5, 6]);
+/// assert_eq!(items, [3, 4, 5, 6, 5, 6]);
+/// # Ok::<(), IndexError>(())
 /// ```
 #[derive(Drop)]
 pub struct Overlapping<'o, T> {

@@ -10,6 +10,21 @@ use aead_ciphers_base::error::Unspecified;
 use std::marker::Model;
 
 /// A header protection key with its algorithm.
+///
+/// # Examples
+///
+/// The mask of RFC 9001 appendix A.2:
+///
+/// ```
+/// use deerlapse::aead::Unspecified;
+/// use deerlapse::aead::quic::{AES_128, HeaderProtectionKey};
+///
+/// let bytes = 0x9f50449e04a0e810283a1e9933adedd2_u128.to_be_bytes();
+/// let sample = 0xd1b1c98dd7689fb8ec11d242b123dc9b_u128.to_be_bytes();
+/// let key = HeaderProtectionKey::new(&AES_128, &bytes)?;
+/// assert_eq!(key.new_mask(&sample)?, [0x43, 0x7b, 0x9a, 0xec, 0x36]);
+/// # Ok::<(), Unspecified>(())
+/// ```
 #[derive(Drop)]
 pub struct HeaderProtectionKey {
     cipher: Cipher,

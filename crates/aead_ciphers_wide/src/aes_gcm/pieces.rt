@@ -17,6 +17,32 @@ use aead_ciphers_base::error::Unspecified;
 use aead_ciphers_base::values::{Aad, NONCE_LEN, Nonce, Tag};
 
 /// What is kept of a message that is sealed in pieces, as plain data without padding. The keystream in `batch` is secret.
+///
+/// # Examples
+///
+/// ```
+/// use deerlapse::aead::{Aad, Nonce, Unspecified};
+/// use deerlapse::aes_gcm::{ExpandedKey, GcmKey, KeyBytes, SealState, Work};
+///
+/// let bytes = [7; 16]; // not a real key
+/// let mut key = ExpandedKey::zeros();
+/// key.expand(KeyBytes::AES_128(&bytes), &mut Work::new());
+///
+/// let nonce = || Nonce::assume_unique_for_key([1; 12]); // another for each message
+/// let mut state: SealState = key.begin(nonce(), Aad::empty())?;
+/// let mut pieces = [*b"hel", *b"lo!"];
+/// for piece in &mut pieces {
+///     key.update(&mut state, piece)?;
+/// }
+/// let tag = key.finish(state);
+///
+/// // The bytes are those of one call.
+/// let mut whole = *b"hello!";
+/// let tag_of_whole = key.seal(nonce(), Aad::empty(), &mut whole, &mut Work::new())?;
+/// assert_eq!(pieces.concat(), whole);
+/// assert_eq!(tag.as_ref(), tag_of_whole.as_ref());
+/// # Ok::<(), Unspecified>(())
+/// ```
 #[repr(C)]
 #[derive(Drop)]
 pub struct SealState {

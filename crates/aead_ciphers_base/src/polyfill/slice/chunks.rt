@@ -31,14 +31,13 @@ impl<T, const N: usize> Copy for AsChunks<'_, T, N> {}
 ///
 /// # Examples
 ///
-/// `hold` asserts what the items contain. From `crates/aead_ciphers_base_tests/src/tests/chunks.rt`:
-///
 /// ```
-/// let items = [1, 2, 3, 4, 5].map(Item);
-/// let (blocks, rest) = as_chunks::<_, 2>(&items);
-/// assert_eq!(rt; blocks.len(), 2);
-/// hold(&rt, &blocks[1], &[3, 4]);
-/// hold(&rt, rest, &[5]);
+/// use aead_ciphers_base::polyfill::slice::as_chunks;
+///
+/// let (blocks, rest) = as_chunks::<_, 2>(&[1, 2, 3, 4, 5]);
+/// assert_eq!(blocks.len(), 2);
+/// assert_eq!(blocks[1], [3, 4]);
+/// assert_eq!(rest, [5]);
 /// ```
 #[tactic(auto, using(crate::proofs::BlocksLemmas::blocks_take, crate::proofs::BlocksLemmas::whole_blocks))]
 pub fn as_chunks<T, const N: usize>(items: &[T]) -> (AsChunks<'_, T, N>, &[T])

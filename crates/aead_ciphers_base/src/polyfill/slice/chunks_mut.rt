@@ -36,16 +36,17 @@ fn split_after_whole_blocks<T, const N: usize>(items: &mut [T]) -> (&mut [T], &m
 ///
 /// # Examples
 ///
-/// `hold` asserts what the items contain. From `crates/aead_ciphers_base_tests/src/tests/chunks.rt`:
-///
 /// ```
-/// let mut items = [1, 2, 3, 4, 5, 6].map(Item);
+/// use aead_ciphers_base::polyfill::slice::as_chunks_mut;
+///
+/// let mut items = [1, 2, 3, 4, 5, 6, 7];
 /// let (mut view, rest) = as_chunks_mut::<_, 2>(&mut items);
-/// holds(&rt, rest.is_empty(), "nothing after them");
-/// assert_eq!(rt; view.as_ref().len(), 3);
-/// let (before, after) = view.split_at_mut(2);
-/// hold(&rt, before.as_flattened(), &[1, 2, 3, 4]);
-/// hold(&rt, after.as_flattened(), &[5, 6]);
+/// assert_eq!(rest, [7]);
+///
+/// let (mut before, after) = view.split_at_mut(2);
+/// assert_eq!(after.as_flattened(), [5, 6]);
+/// before.as_flattened_mut().fill(0);
+/// assert_eq!(items, [0, 0, 0, 0, 5, 6, 7]);
 /// ```
 pub fn as_chunks_mut<T, const N: usize>(items: &mut [T]) -> (AsChunksMut<'_, T, N>, &mut [T])
     requires { 0 < N }
