@@ -22,7 +22,7 @@ fn key<K: BoundKey<Counter>>(bytes: &[u8; 32]) -> Result<K, Unspecified> {
 }
 
 fn main() -> Result<(), Box<dyn std::error::Error>> {
-    let bytes = [7; 32]; // drawn at random, and known to both ends
+    let bytes = [7; 32]; // not a real key, which is drawn at random and known to both ends
     let (mut sealing, mut opening): (SealingKey<Counter>, OpeningKey<Counter>) =
         (key(&bytes)?, key(&bytes)?);
     for text in ["one message", "and another"] {

@@ -2,8 +2,8 @@
 //!
 //! The packages below this one are sources in Rattle, which is Rust with contracts, without their contracts. In Rattle they are
 //! proved to compute what the standards define, for every key, nonce and message. The contract of each function is shown in its
-//! documentation, under *Contract*, and the first page of each package says how to read one. That the text which is left means in
-//! Rust what it means in Rattle is read and tested, and not proved.
+//! documentation, under *Contract*, and [the first page](aead_ciphers#contracts) of each package says how to read one. That the
+//! text which is left means in Rust what it means in Rattle is read and tested, and not proved.
 //!
 //! - [`aead`] has AES-GCM (SP 800-38D) under ring's names. Begin with [`aead::LessSafeKey`], whose calls take the nonce, or with
 //!   [`aead::SealingKey`] and [`aead::OpeningKey`], which take theirs from a sequence that returns no nonce twice.
@@ -17,7 +17,7 @@
 //! use deerlapse::aead::{AES_256_GCM, Aad, LessSafeKey, Nonce, UnboundKey, Unspecified};
 //!
 //! fn main() -> Result<(), Unspecified> {
-//!     let bytes = [7; 32]; // drawn at random, and kept secret
+//!     let bytes = [7; 32]; // not a real key, which is drawn at random and kept secret
 //!     let key = LessSafeKey::new(UnboundKey::new(&AES_256_GCM, &bytes)?);
 //!
 //!     let mut buffer = b"hello".to_vec();
@@ -65,6 +65,7 @@ pub mod aead {
 /// The expanded key of AES-GCM as plain data, and messages that are sealed in pieces.
 pub mod aes_gcm {
     pub use aead_ciphers::aes_gcm::GcmKey;
+    pub use aead_ciphers_base::aes::{KeyBytes, Work};
     pub use aead_ciphers_wide::aes::Width;
     pub use aead_ciphers_wide::aes_gcm::{ExpandedKey, SealState};
 }
