@@ -1,20 +1,20 @@
-"""The clauses of a function as a section of its doc comment, and the errors of `thiserror` written out."""
+"""Contracts, and the ghost items of traits, as sections of doc comments, and the errors of `thiserror` written out."""
 
 import typing
 
-from items import Item
 from tokens import group_end, made, next_of, parts, text_of
 
 
-def documented(lead, clauses):
-    """Returns the comments and attributes before a function, with its clauses as the last section of the doc comment."""
-    if not clauses:
-        return lead
+def documented(lead, title, shown, links):
+    """Returns the comments and attributes before an item, with lines of logic as a folded section at the end of the doc comment,
+    and the links to their definitions."""
     lines = lead.splitlines(keepends=True)
     docs = [at for at, line in enumerate(lines) if line.lstrip().startswith("///")]
     after = docs[-1] + 1 if docs else next((at for at, line in enumerate(lines) if line.strip()), len(lines))
-    shown = [" ".join(text_of(clause.tokens).split()) for clause in clauses]
-    section = ["<details><summary>Contract</summary>", "", "```text", *shown, "```", "", "</details>"]
+    section = [f"<details><summary>{title}</summary>", "", "```text", *shown, "```", ""]
+    if links:
+        section += [links, ""]
+    section.append("</details>")
     if docs:
         section.insert(0, "")
     text = "".join(f"/// {line}".rstrip() + "\n" for line in section)
@@ -22,6 +22,16 @@ def documented(lead, clauses):
         lines.insert(after - 1, "")
         return "".join(lines[:-1]) + "\n" + text + lines[-1].strip(" ")
     return "".join(lines[:after]) + text + "".join(lines[after:])
+
+
+def on_one_line(tokens):
+    return " ".join(text_of(tokens).split())
+
+
+def ghost_of(item):
+    """Returns a ghost item of a trait after its comment, a line each."""
+    comments = [token.text for token in item.lead if token.kind == "comment"]
+    return [*comments, on_one_line(item.tokens)]
 
 
 class Displayed(typing.NamedTuple):

@@ -1,9 +1,11 @@
 """A source of Rattle as Rust: what is deleted, what is left out, and the texts that are replaced."""
 
 import collections
+import contextlib
 import re
 
 import contracts
+import definitions
 import lists
 from items import CLAUSES, clause_end, function, items, text_of_function
 from tokens import OPEN, TRIVIA, Fault, group_end, last_of, made, next_of, parts, text_of, tokens, words_of
@@ -38,18 +40,8 @@ def kept_lead(lead):
     return lead[:end]
 
 
-def without_examples(source, lead):
-    """Returns the comments before an item without the examples in Rattle: from a heading or a sentence that ends in "From `FILE`:"
-    to the end of the block after it."""
-    text = text_of(lead)
-    found, count = lists.EXAMPLE.subn("", text)
-    source.counts["example"] += count
-    return made(found, lead[0].line) if count else lead
-
-
 def attributes(source, lead):
-    """Returns the comments and attributes before an item, without tactics, `Drop` and examples in Rattle."""
-    lead = without_examples(source, lead)
+    """Returns the comments and attributes before an item, without tactics and `Drop`."""
     kept, at = [], 0
     while at < len(lead):
         if lead[at].text != "#":
@@ -277,15 +269,35 @@ def before_item(text, added):
 class Writer:
     """Writes the items of a source as Rust."""
 
-    def __init__(self, source, leveler):
-        self.source, self.leveler = source, leveler
+    def __init__(self, source, leveler, pages):
+        self.source, self.leveler, self.pages = source, leveler, pages
+        # The imports of definitions of the file and of the block.
+        self.imports = collections.ChainMap()
 
     def file(self):
         found, rest = items(self.source.tokens)
-        return self.items(found, "file") + text_of(rest)
+        with self.importing(found):
+            return self.items(found, "file") + text_of(rest)
 
     def items(self, found, place):
         return "".join(self.item(item, place) for item in found)
+
+    @contextlib.contextmanager
+    def importing(self, found):
+        """Adds what the items of a file or of a block import of definitions, while they are written."""
+        self.imports = self.imports.new_child()
+        for item in found:
+            if item.kind == "ghost" and item.name == "use":
+                self.imports.update(definitions.imported(text_of(item.tokens)))
+        yield
+        self.imports = self.imports.parents
+
+    def documented(self, lead, title, shown, logic, arguments=()):
+        """Returns what is before an item, with lines of logic in the doc comment, and links to the definitions that it cites."""
+        names = self.imports.keys() - set(arguments)
+        cited = dict.fromkeys(name for tokens in logic for name in definitions.cited(tokens, names))
+        links = self.pages.links(self.source.crate, [(name, self.imports[name]) for name in cited])
+        return contracts.documented(lead, title, shown, links)
 
     def is_left_out(self, item):
         key = (self.source.path, head_of(item))
@@ -397,14 +409,24 @@ class Writer:
         at = item.body_start()
         head = without_bounds(self.source, self.rewritten(item.tokens[:at]))
         found, rest = items(item.tokens[at + 1 : -1])
-        with self.leveler.block(self.source, head) as leveled:
-            body = self.items(found, place)
         lead = text_of(attributes(self.source, item.lead))
+        with self.importing(found), self.leveler.block(self.source, head) as leveled:
+            body = self.items(found, place)
+            if place == "trait":
+                lead = self.with_ghosts(lead, found)
         key = (self.source.path, head_of(item), "body")
         if key in lists.ADDED:
             self.source.used.add(key)
             body = f"\n{lists.ADDED[key].what}{body}"
         return f"{lead}{text_of(leveled.head)}{{{body}{text_of(rest)}}}{leveled.after}"
+
+    def with_ghosts(self, lead, found):
+        """Returns what is before a trait, with its ghost items, which contracts cite, in the doc comment."""
+        ghosts = [item for item in found if item.kind == "ghost" and item.name != "use"]
+        if not ghosts:
+            return lead
+        shown = [line for item in ghosts for line in contracts.ghost_of(item)]
+        return self.documented(lead, "Ghost items", shown, [item.tokens for item in ghosts])
 
     def fn(self, item, place):
         it = function(item.tokens)
@@ -412,8 +434,10 @@ class Writer:
         lead = text_of(attributes(self.source, item.lead) if is_entry else inlined(self.source, item))
         for clause in it.clauses:
             self.source.count("ghost parameter" if clause.kind == "ghost" else "clause")
-        if item.is_public or place == "trait" or place == "trait impl":
-            lead = contracts.documented(lead, it.clauses)
+        if it.clauses and (item.is_public or place in ("trait", "trait impl")):
+            arguments = [parameter_name(parameter) for parameter in parts(it.parameters)]
+            logic = [clause.tokens for clause in it.clauses]
+            lead = self.documented(lead, "Contract", list(map(contracts.on_one_line, logic)), logic, arguments)
         it.body = executed(self.source, it.body)
         it.parameters = parameters(self.source, it)
         it.generics = without_bounds(self.source, it.generics)

@@ -1,14 +1,6 @@
 """What `tools/rust` deletes, replaces, leaves out and adds, each with its reason. rust/README.md has these lists."""
 
-import re
 import typing
-
-# An example in Rattle in a doc comment: the empty line, the heading and the paragraph before its block, and the block.
-DOC = r"[ \t]*//[/!]"
-EXAMPLE = re.compile(
-    rf"(?:{DOC}\n)?(?:{DOC} # Examples\n{DOC}\n)?(?:{DOC} (?!#|<)[^\n]+\n)*{DOC} [^\n]*From `[^`\n]+`:\n{DOC}\n{DOC} ```\n"
-    rf"(?:{DOC}(?! ```)[^\n]*\n)*{DOC} ```\n"
-)
 
 
 class Entry(typing.NamedTuple):
@@ -39,15 +31,14 @@ CRATES = {
 # What is deleted wherever it stands. The names are those by which the program counts.
 DELETED = {
     "clause": Entry("`requires` and `ensures`", "A contract does nothing at run time. That of a public function goes into its doc comment."),
-    "ghost item": Entry("`ghost NAME ..`, in files, traits and `impl` blocks", "It is read by the proof alone."),
-    "ghost import": Entry("`ghost use ..`", "It names what clauses and ghost items speak of."),
+    "ghost item": Entry("`ghost NAME ..`, in files, traits and `impl` blocks", "It is read by the proof alone. Those of a trait go into its doc comment."),
+    "ghost import": Entry("`ghost use ..`", "It names the definitions of which clauses and ghost items speak. The contracts link to them."),
     "ghost field": Entry("`ghost NAME: { .. }` in a `struct`", "It states the invariant of the struct."),
     "ghost parameter": Entry("`ghost NAME: { .. }` among the clauses of a function", "It has no value at run time."),
     "tactic": Entry("`#[tactic(..)]` and `#![tactic(..)]`", "It tells the prover what to try."),
     "model": Entry("`impl Model for ..`", "It says which value the contracts see in a type."),
     "derived Drop": Entry("`Drop` in `#[derive(..)]`", "In Rattle only a type with `Drop` may be let go. In Rust each may."),
     "Drop bound": Entry("`Drop` as a bound", "The same."),
-    "example": Entry("an example in a doc comment, with its heading, whose source is a test or an example in Rattle", "It doesn't compile as Rust."),
     "law": Entry("a call of a function of `LAWS`", "It does nothing, and its contract is for the proof."),
 }
 

@@ -34,11 +34,14 @@ pub mod generic {
     pub use super::sealing_key::SealingKey;
 }
 
-/// `generic::LessSafeKey` over the ciphers of these libraries.
+/// A key whose calls take the nonce as an argument, over the ciphers of these libraries.
+/// [`generic::LessSafeKey`] has the methods.
 pub type LessSafeKey = less_safe_key::LessSafeKey<ExpandedKey>;
 
-/// `generic::SealingKey` over the ciphers of these libraries.
+/// A key that seals each message under the next nonce of its sequence, over the ciphers of these libraries.
+/// [`generic::SealingKey`] has the methods.
 pub type SealingKey<N> = sealing_key::SealingKey<ExpandedKey, N>;
 
-/// `generic::OpeningKey` over the ciphers of these libraries.
+/// A key that opens each message under the next nonce of its sequence, over the ciphers of these libraries.
+/// [`generic::OpeningKey`] has the methods.
 pub type OpeningKey<N> = opening_key::OpeningKey<ExpandedKey, N>;

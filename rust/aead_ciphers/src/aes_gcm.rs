@@ -25,7 +25,7 @@ pub mod generic {
     pub use super::key::Key;
 }
 
-/// `generic::Key` over the ciphers of these libraries.
+/// A key of AES-GCM over the ciphers of these libraries. [`generic::Key`] has the methods.
 pub type Key = key::Key<ExpandedKey>;
 
 /// Encrypts `in_out` in place, and returns the 16-byte tag of the ciphertext and `aad` (SP 800-38D section 7.1).
@@ -45,6 +45,8 @@ pub type Key = key::Key<ExpandedKey>;
 /// ensures refused { OnErr result (in_out.new ≡ in_out.old) }
 /// ensures worked { SealWork (length (aad_bytes aad.entry)) (length in_out.old) result work.old work.new }
 /// ```
+///
+/// Definitions: [`CanSeal`](crate::specs::gcm#CanSeal), [`aad_bytes`](aead_ciphers_base::specs::values#aad_bytes), [`Fits`](crate::specs::gcm#Fits), [`gcm_encrypted`](crate::specs::gcm#gcm_encrypted), [`aes_cipher`](aead_ciphers_base::specs::aes#aes), [`gcm_tag`](crate::specs::gcm#gcm_tag), [`SealWork`](crate::specs::gcm#SealWork).
 ///
 /// </details>
 pub fn seal<K: GcmKey>(
@@ -75,6 +77,8 @@ pub fn seal<K: GcmKey>(
 /// ensures opened { Opened (aes_cipher key.now) nonce (aad_bytes aad.entry) received_tag src.start in_out.old (is_ok result) in_out.new }
 /// ensures worked { OpenWork (length (aad_bytes aad.entry)) src.start (length in_out.old) result work.old work.new }
 /// ```
+///
+/// Definitions: [`CanOpen`](crate::specs::gcm#CanOpen), [`aad_bytes`](aead_ciphers_base::specs::values#aad_bytes), [`Opened`](crate::specs::gcm#Opened), [`aes_cipher`](aead_ciphers_base::specs::aes#aes), [`OpenWork`](crate::specs::gcm#OpenWork).
 ///
 /// </details>
 pub fn open<K: GcmKey>(

@@ -46,6 +46,8 @@ impl Xi {
     /// ensures { (h : List ℕ) → IsHashOf h [] result }
     /// ```
     ///
+    /// Definitions: [`IsHashOf`](crate::specs::hash_of#IsHashOf).
+    ///
     /// </details>
     #[inline(always)]
     pub fn zero() -> Self {
@@ -82,6 +84,15 @@ impl Xi {
 }
 
 /// GHASH under a key, block by block.
+///
+/// <details><summary>Ghost items</summary>
+///
+/// ```text
+/// // The hash subkey.
+/// ghost hash_subkey: { Self → List ℕ };
+/// ```
+///
+/// </details>
 pub trait UpdateBlock {
     /// Updates the hash `xi` with `block`, by one field product.
     ///
@@ -92,6 +103,8 @@ pub trait UpdateBlock {
     /// ensures hashed { (done : List (List ℕ)) → IsHashOf (hash_subkey self.now) done xi.old → IsHashOf (hash_subkey self.now) (done ++ block ∷ []) xi.new }
     /// ensures worked { Adds work.old work.new 0 1 }
     /// ```
+    ///
+    /// Definitions: [`CanAdd`](aead_ciphers_base::specs::work#CanAdd), [`IsHashOf`](crate::specs::hash_of#IsHashOf), [`Adds`](aead_ciphers_base::specs::work#Adds).
     ///
     /// </details>
     fn update_block(&self, xi: &mut Xi, block: Block, work: &mut Work);
@@ -108,6 +121,8 @@ pub trait UpdateBlocks: UpdateBlock {
     /// ensures hashed { (done : List (List ℕ)) → IsHashOf (Self.hash_subkey self.now) done xi.old → IsHashOf (Self.hash_subkey self.now) (done ++ blocks 16 input.entry.items.now) xi.new }
     /// ensures worked { Adds work.old work.new 0 (length input.entry.items.now / 16) }
     /// ```
+    ///
+    /// Definitions: [`CanAdd`](aead_ciphers_base::specs::work#CanAdd), [`IsHashOf`](crate::specs::hash_of#IsHashOf), [`blocks`](aead_ciphers_base::specs::blocks#blocks), [`Adds`](aead_ciphers_base::specs::work#Adds).
     ///
     /// </details>
     fn update_blocks(&self, xi: &mut Xi, input: AsChunks<'_, u8, BLOCK_LEN>, work: &mut Work);

@@ -27,6 +27,18 @@ pub enum Outcome {
 }
 
 /// One call with a key, and its outcome.
+///
+/// # Examples
+///
+/// A job that opens a packet after its header of 4 bytes, which is the AAD:
+///
+/// ```
+/// use deerlapse::session::{Job, Operation, Outcome};
+///
+/// let packet = vec![7; 4 + 5 + 16]; // the header, the ciphertext and the tag
+/// let job = Job::new(Operation::Open(4), packet[..4].to_vec(), packet);
+/// assert_eq!(job.outcome, Outcome::Refused); // it hasn't been run yet
+/// ```
 pub struct Job {
     /// What the job does.
     pub operation: Operation,
@@ -81,6 +93,34 @@ impl Job {
 /// Runs the jobs in order: `Seal` jobs with the sealing key, `Open` jobs with the opening key. The outcome of each job
 /// is overwritten. A sealing job may allocate memory for its tag.
 ///
+/// # Examples
+///
+/// The sealing key has two nonces, so it refuses the third message:
+///
+/// ```
+/// use deerlapse::aead::{
+///     AES_128_GCM, BoundKey, CounterSequence, OpeningKey, SealingKey, UnboundKey, Unspecified,
+/// };
+/// use deerlapse::session::{Job, Operation, Outcome, run};
+///
+/// let key = || UnboundKey::new(&AES_128_GCM, &[7; 16]); // not a real key
+/// let sequence = || CounterSequence::new([1, 2, 3, 4], 0, 2);
+/// let mut sealing = SealingKey::new(key()?, sequence()?);
+/// let mut opening = OpeningKey::new(key()?, sequence()?);
+///
+/// let job = || Job::new(Operation::Seal, Vec::new(), b"hello".to_vec());
+/// let mut jobs = [job(), job(), job()];
+/// run(&mut sealing, &mut opening, &mut jobs);
+/// let outcomes = jobs.each_ref().map(|job| job.outcome);
+/// assert_eq!(outcomes, [Outcome::Sealed, Outcome::Sealed, Outcome::Refused]);
+///
+/// jobs[0].operation = Operation::Open(0);
+/// run(&mut sealing, &mut opening, &mut jobs[..1]);
+/// assert_eq!(jobs[0].outcome, Outcome::Opened(5));
+/// assert!(jobs[0].buffer.starts_with(b"hello"));
+/// # Ok::<(), Unspecified>(())
+/// ```
+///
 /// <details><summary>Contract</summary>
 ///
 /// ```text
@@ -88,6 +128,8 @@ impl Job {
 /// ensures capacity_kept { AllZip (λ old new. old.operation ≢ Operation.Seal → vec_capacity new.buffer ≡ vec_capacity old.buffer) jobs.old jobs.new }
 /// ensures no_nonce_twice { GrewFresh (S.spent sealing.old.sequence) (S.spent sealing.new.sequence) }
 /// ```
+///
+/// Definitions: [`Runs`](crate::specs::runs#Runs), [`JobStep`](crate::specs::runs#JobStep), [`GrewFresh`](crate::specs::fresh_nonces#GrewFresh).
 ///
 /// </details>
 pub fn run<K: GcmKey, L: GcmKey, S: NonceSequence, O: NonceSequence>(

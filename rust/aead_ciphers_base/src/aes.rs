@@ -43,6 +43,19 @@ pub type Block = [u8; BLOCK_LEN];
 pub const ZERO_BLOCK: Block = [0; BLOCK_LEN];
 
 /// The bytes of an AES key, whose length selects AES-128 or AES-256.
+///
+/// # Examples
+///
+/// ```
+/// use deerlapse::aead::Unspecified;
+/// use deerlapse::aes_gcm::KeyBytes;
+///
+/// let bytes = [7; 32]; // not a real key
+/// assert!(matches!(KeyBytes::from_slice(&bytes)?, KeyBytes::AES_256(_)));
+/// assert!(matches!(KeyBytes::from_slice(&bytes[..16])?, KeyBytes::AES_128(_)));
+/// assert!(KeyBytes::from_slice(&bytes[..24]).is_err());
+/// # Ok::<(), Unspecified>(())
+/// ```
 #[allow(non_camel_case_types)]
 #[derive(Clone, Copy)]
 pub enum KeyBytes<'a> {
@@ -63,6 +76,8 @@ impl<'a> KeyBytes<'a> {
     /// ensures bytes { IfOk result (λ key. key_bytes key ≡ bytes.now) }
     /// ```
     ///
+    /// Definitions: [`key_bytes`](crate::specs::key_bytes#key_bytes).
+    ///
     /// </details>
     #[inline(always)]
     pub fn from_slice(bytes: &'a [u8]) -> Result<Self, Unspecified> {
@@ -81,6 +96,8 @@ impl<'a> KeyBytes<'a> {
     /// ensures len { (length result.now ≡ 16) ⊎ (length result.now ≡ 32) }
     /// ```
     ///
+    /// Definitions: [`key_bytes`](crate::specs::key_bytes#key_bytes).
+    ///
     /// </details>
     #[inline(always)]
     pub fn as_slice(self) -> &'a [u8] {
@@ -92,6 +109,34 @@ impl<'a> KeyBytes<'a> {
 }
 
 /// A block cipher under a key, which encrypts one block at a time.
+///
+/// # Examples
+///
+/// The example of FIPS 197 appendix B:
+///
+/// ```
+/// use aead_ciphers_base::aes::{EncryptBlock, Key, KeyBytes, Work};
+/// use aead_ciphers_base::error::Unspecified;
+///
+/// let bytes = 0x2b7e151628aed2a6abf7158809cf4f3c_u128.to_be_bytes();
+/// let key = Key::new(KeyBytes::AES_128(&bytes))?;
+///
+/// let block = 0x3243f6a8885a308d313198a2e0370734_u128.to_be_bytes();
+/// let encrypted = key.encrypt_block(block, &mut Work::new());
+/// assert_eq!(encrypted, 0x3925841d02dc09fbdc118597196a0b32_u128.to_be_bytes());
+/// # Ok::<(), Unspecified>(())
+/// ```
+///
+/// <details><summary>Ghost items</summary>
+///
+/// ```text
+/// // The block cipher: from the key and a block to the encrypted block.
+/// ghost cipher: { Self → List ℕ → List ℕ };
+/// // An encrypted block has 16 bytes.
+/// ghost length_cipher: { (key : Self) (block : List ℕ) → length block ≡ 16 → length (cipher key block) ≡ 16 };
+/// ```
+///
+/// </details>
 pub trait EncryptBlock {
     /// Encrypts a block: 16 bytes in, 16 bytes out. Counts one block in `work`.
     ///
@@ -102,6 +147,8 @@ pub trait EncryptBlock {
     /// ensures value { result ≡ cipher self.now block }
     /// ensures worked { Adds work.old work.new 1 0 }
     /// ```
+    ///
+    /// Definitions: [`CanAdd`](crate::specs::work#CanAdd), [`Adds`](crate::specs::work#Adds).
     ///
     /// </details>
     fn encrypt_block(&self, block: Block, work: &mut Work) -> Block;
@@ -117,6 +164,8 @@ pub trait EncryptBlock {
     /// ensures worked { Adds work.old work.new 1 0 }
     /// ```
     ///
+    /// Definitions: [`CanAdd`](crate::specs::work#CanAdd), [`⊕`](crate::specs::bytes#⊕), [`Adds`](crate::specs::work#Adds).
+    ///
     /// </details>
     #[inline(always)]
     fn encrypt_iv_xor_block(&self, iv: Iv, block: Block, work: &mut Work) -> Block {
@@ -124,10 +173,10 @@ pub trait EncryptBlock {
     }
 }
 
-/// A slice of bytes that is read from `start` on and written from the front on.
+/// A slice of bytes that is read from `start` on and written from the front on. [`overlapping::Overlapping`] has the methods.
 pub type Overlapping<'o> = overlapping::Overlapping<'o, u8>;
 
-/// An `Overlapping` whose input is shorter than a block of 16 bytes.
+/// An `Overlapping` whose input is shorter than a block of 16 bytes. [`overlapping::PartialBlock`] has the methods.
 pub type OverlappingPartialBlock<'o> = overlapping::PartialBlock<'o, u8, BLOCK_LEN>;
 
 /// Counter mode over a block cipher under a key (GCTR, SP 800-38D section 6.5).
@@ -148,11 +197,28 @@ pub trait EncryptCtr32: EncryptBlock {
     /// ensures worked { Adds work.old work.new (input_len in_out.entry / 16) 0 }
     /// ```
     ///
+    /// Definitions: [`input_len`](crate::specs::overlapping#input_len), [`CanAdd`](crate::specs::work#CanAdd), [`EncryptsToFront`](crate::specs::counter_mode#EncryptsToFront), [`Advances`](crate::specs::counter_mode#Advances), [`Adds`](crate::specs::work#Adds).
+    ///
     /// </details>
     fn ctr32_encrypt_within(&self, in_out: Overlapping<'_>, counter: &mut Counter, work: &mut Work);
 }
 
 /// An expanded AES key: its round keys (FIPS 197 section 5.2), each in all four blocks of eight planes.
+///
+/// # Examples
+///
+/// The mask of RFC 9001 appendix A.2:
+///
+/// ```
+/// use aead_ciphers_base::aes::{Key, KeyBytes};
+/// use aead_ciphers_base::error::Unspecified;
+///
+/// let bytes = 0x9f50449e04a0e810283a1e9933adedd2_u128.to_be_bytes();
+/// let sample = 0xd1b1c98dd7689fb8ec11d242b123dc9b_u128.to_be_bytes();
+/// let key = Key::new(KeyBytes::from_slice(&bytes)?)?;
+/// assert_eq!(key.new_mask(sample), [0x43, 0x7b, 0x9a, 0xec, 0x36]);
+/// # Ok::<(), Unspecified>(())
+/// ```
 #[derive(Clone)]
 pub struct Key {
     round_keys: [[u64; 8]; 15],
@@ -175,6 +241,8 @@ impl Key {
     /// ensures accepted { IsOk result }
     /// ensures made { IfOk result (λ key. key ≡ key_bytes bytes.entry) }
     /// ```
+    ///
+    /// Definitions: [`key_bytes`](crate::specs::key_bytes#key_bytes).
     ///
     /// </details>
     #[inline(always)]
@@ -202,6 +270,8 @@ impl Key {
     /// ensures { (k : ℕ) → k < 4 → slice_index_or result k [] ≡ aes self.now (slice_index_or blocks k []) }
     /// ```
     ///
+    /// Definitions: [`aes`](crate::specs::aes#aes).
+    ///
     /// </details>
     #[inline(always)]
     pub fn encrypt_four(&self, blocks: [Block; 4]) -> [Block; 4] {
@@ -215,6 +285,8 @@ impl Key {
     /// ```text
     /// ensures { result ≡ aes_mask self.now sample }
     /// ```
+    ///
+    /// Definitions: [`aes_mask`](crate::specs::mask#aes_mask).
     ///
     /// </details>
     #[inline(always)]
@@ -235,6 +307,8 @@ impl Key {
 /// ensures schedule { IsSchedule round_keys.new result }
 /// ensures bytes { key_of round_keys.new result ≡ key_bytes bytes.entry }
 /// ```
+///
+/// Definitions: [`IsSchedule`](crate::specs::key_schedule#IsSchedule), [`key_of`](crate::specs::key_schedule#key_of), [`key_bytes`](crate::specs::key_bytes#key_bytes).
 ///
 /// </details>
 #[inline(always)]
@@ -261,6 +335,8 @@ impl<'k> KeyRef<'k> {
     /// requires { IsSchedule round_keys.now rounds }
     /// ensures { result ≡ key_of round_keys.now rounds }
     /// ```
+    ///
+    /// Definitions: [`IsSchedule`](crate::specs::key_schedule#IsSchedule), [`key_of`](crate::specs::key_schedule#key_of).
     ///
     /// </details>
     #[inline(always)]

@@ -44,6 +44,8 @@ fn is_zero(difference: u8) -> bool {
 /// ensures { result ≡ a ⊕ b }
 /// ```
 ///
+/// Definitions: [`⊕`](crate::specs::bytes#⊕).
+///
 /// </details>
 #[inline(always)]
 pub fn xor_16(a: [u8; 16], b: [u8; 16]) -> [u8; 16] {
@@ -76,6 +78,8 @@ pub fn xor_assign(a: &mut [u8], b: u8) {
 /// ```text
 /// ensures { a.new ≡ (a.old ⊕ b.now) ++ drop (length b.now) a.old }
 /// ```
+///
+/// Definitions: [`⊕`](crate::specs::bytes#⊕).
 ///
 /// </details>
 #[inline(always)]

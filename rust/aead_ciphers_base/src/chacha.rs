@@ -16,7 +16,19 @@ pub const BLOCK_LEN: usize = 64;
 /// The length of four blocks, in bytes.
 const BATCH_LEN: usize = 4 * BLOCK_LEN;
 
-/// A slice of bytes that is read from `start` on and written from the front on.
+/// A slice of bytes that is read from `start` on and written from the front on. [`overlapping::Overlapping`] has the methods.
+///
+/// # Examples
+///
+/// ```
+/// use deerlapse::chacha::Overlapping;
+/// use deerlapse::error::IndexError;
+///
+/// let mut packet = *b"header, text";
+/// let in_out = Overlapping::new(&mut packet, 8..)?;
+/// assert_eq!(in_out.input(), b"text");
+/// # Ok::<(), IndexError>(())
+/// ```
 pub type Overlapping<'o> = overlapping::Overlapping<'o, u8>;
 
 type State = [u32; 16];
@@ -56,6 +68,19 @@ fn xor_stream<const N: usize>(
 }
 
 /// A block counter and a nonce: the position at which a keystream starts.
+///
+/// # Examples
+///
+/// The last four words of the state of RFC 8439 section 2.3.2:
+///
+/// ```
+/// use deerlapse::aead::Nonce;
+/// use deerlapse::chacha::Counter;
+///
+/// let nonce = Nonce::assume_unique_for_key([0, 0, 0, 9, 0, 0, 0, 0x4a, 0, 0, 0, 0]);
+/// let counter = Counter::from_nonce_and_ctr(nonce, 1);
+/// assert_eq!(counter.into_words_less_safe(), [1, 0x09000000, 0x4a000000, 0]);
+/// ```
 pub struct Counter {
     words: [u32; 4],
 }
@@ -106,6 +131,8 @@ impl Counter {
     /// ensures { result ≡ self.number ∷ le_words self.nonce }
     /// ```
     ///
+    /// Definitions: [`le_words`](crate::specs::cha_cha20#le_words).
+    ///
     /// </details>
     pub fn into_words_less_safe(self) -> [u32; 4] {
         self.words
@@ -113,6 +140,29 @@ impl Counter {
 }
 
 /// A ChaCha20 key of 32 bytes.
+///
+/// # Examples
+///
+/// The beginning of the example of RFC 8439 section 2.4.2:
+///
+/// ```
+/// use deerlapse::aead::Nonce;
+/// use deerlapse::chacha::{Counter, Key, Overlapping};
+///
+/// let key = Key::new(std::array::from_fn(|i| i as u8));
+/// let counter = || {
+///     let nonce = Nonce::assume_unique_for_key([0, 0, 0, 0, 0, 0, 0, 0x4a, 0, 0, 0, 0]);
+///     Counter::from_nonce_and_ctr(nonce, 1)
+/// };
+///
+/// let mut text = *b"Ladies and Gentlemen";
+/// key.encrypt(counter(), Overlapping::from(&mut text[..]));
+/// assert_eq!(text[..8], [0x6e, 0x2e, 0x35, 0x9a, 0x25, 0x68, 0xf9, 0x80]);
+///
+/// // The same call decrypts.
+/// key.encrypt(counter(), Overlapping::from(&mut text[..]));
+/// assert_eq!(&text, b"Ladies and Gentlemen");
+/// ```
 #[derive(Clone)]
 pub struct Key {
     words: [u32; 8],
@@ -149,6 +199,8 @@ impl Key {
     /// ensures { result.now ≡ le_words self.now }
     /// ```
     ///
+    /// Definitions: [`le_words`](crate::specs::cha_cha20#le_words).
+    ///
     /// </details>
     pub fn words_less_safe(&self) -> &[u32; 8] {
         &self.words
@@ -167,6 +219,8 @@ impl Key {
     /// ensures { let input = input_of in_out.entry in in_out.exit.0.now ≡ chacha20_encrypted self.now counter.number counter.nonce input ++ drop (length input) in_out.entry.in_out.now }
     /// ```
     ///
+    /// Definitions: [`input_len`](crate::specs::overlapping#input_len), [`input_of`](crate::specs::overlapping#input_of), [`chacha20_encrypted`](crate::specs::cha_cha20#chacha20_encrypted).
+    ///
     /// </details>
     pub fn encrypt(&self, counter: Counter, in_out: Overlapping<'_>) {
         let Overlapping { in_out, start } = in_out;
@@ -183,6 +237,8 @@ impl Key {
     /// ensures encrypted { in_out.new ≡ chacha20_encrypted self.now 0 nonce in_out.old }
     /// ensures one { result ≡ record { number = 1; nonce = nonce } }
     /// ```
+    ///
+    /// Definitions: [`chacha20_encrypted`](crate::specs::cha_cha20#chacha20_encrypted).
     ///
     /// </details>
     pub fn encrypt_single_block_with_ctr_0<const N: usize>(
@@ -202,6 +258,8 @@ impl Key {
     /// ```text
     /// ensures { result ≡ chacha_mask self.now sample }
     /// ```
+    ///
+    /// Definitions: [`chacha_mask`](crate::specs::mask#chacha_mask).
     ///
     /// </details>
     pub fn new_mask(&self, sample: Sample) -> [u8; 5] {

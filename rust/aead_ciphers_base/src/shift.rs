@@ -16,6 +16,8 @@ use crate::overlapping::{Chunk, Overlapping, chunk_at};
 /// ensures { ShiftsBlocks C.chunk_items F.FnMut C.chunk_len transform in_out.entry.in_out.now in_out.entry.start in_out.exit.0.now }
 /// ```
 ///
+/// Definitions: [`input_len`](crate::specs::overlapping#input_len), [`TakesBlocks`](crate::specs::shift#TakesBlocks), [`input_of`](crate::specs::overlapping#input_of), [`ShiftsBlocks`](crate::specs::shift#ShiftsBlocks).
+///
 /// </details>
 pub fn shift_full_blocks<C: Chunk<u8>, F: FnMut(&C) -> C>(
     in_out: Overlapping<'_, u8>,

@@ -14,6 +14,20 @@ pub const MAX_TAG_LEN: usize = 16;
 pub type Sample = [u8; 16];
 
 /// A nonce: 12 bytes that are used only once under a key. Calls consume it, and it cannot be cloned.
+///
+/// # Examples
+///
+/// A packet that begins with its nonce:
+///
+/// ```
+/// use deerlapse::aead::{NONCE_LEN, Nonce, Unspecified};
+///
+/// let packet = b"twelve bytes, then the ciphertext and its tag";
+/// let (front, rest) = packet.split_at(NONCE_LEN);
+/// assert_eq!(Nonce::try_assume_unique_for_key(front)?.as_ref(), b"twelve bytes");
+/// assert!(Nonce::try_assume_unique_for_key(rest).is_err());
+/// # Ok::<(), Unspecified>(())
+/// ```
 pub struct Nonce {
     bytes: [u8; NONCE_LEN],
 }
@@ -68,6 +82,16 @@ impl Nonce {
 }
 
 /// Additional authenticated data (AAD): bytes that are authenticated by the tag but not encrypted.
+///
+/// # Examples
+///
+/// ```
+/// use deerlapse::aead::Aad;
+///
+/// let packet = b"header, then what is encrypted";
+/// assert_eq!(Aad::from(&packet[..6]).as_ref(), b"header");
+/// assert_eq!(Aad::empty().as_ref(), b"");
+/// ```
 #[derive(Clone, Copy, PartialEq, Eq)]
 pub struct Aad<'a> {
     bytes: &'a [u8],
@@ -90,6 +114,8 @@ impl<'a> Aad<'a> {
     /// ensures { aad_bytes result ≡ [] }
     /// ```
     ///
+    /// Definitions: [`aad_bytes`](crate::specs::values#aad_bytes).
+    ///
     /// </details>
     #[inline(always)]
     pub fn empty() -> Self {
@@ -103,6 +129,8 @@ impl<'a> Aad<'a> {
     /// ```text
     /// ensures { result.now ≡ aad_bytes self.now }
     /// ```
+    ///
+    /// Definitions: [`aad_bytes`](crate::specs::values#aad_bytes).
     ///
     /// </details>
     #[inline(always)]
@@ -121,6 +149,18 @@ impl fmt::Debug for Aad<'_> {
 }
 
 /// An authentication tag of 16 bytes.
+///
+/// # Examples
+///
+/// ```
+/// use deerlapse::aead::{Tag, Unspecified};
+///
+/// let received = *b"sixteen bytes of";
+/// assert_eq!(Tag::from(received).as_ref(), received);
+/// assert_eq!(Tag::try_from(&received[..])?.as_ref(), received);
+/// assert!(Tag::try_from(&received[1..]).is_err());
+/// # Ok::<(), Unspecified>(())
+/// ```
 #[must_use]
 #[derive(Clone, Copy)]
 pub struct Tag {

@@ -25,6 +25,17 @@ pub use round_keys::{RoundKeys, RoundPlanes, write_planes};
 
 /// The width of the planes on which a key encrypts batches of blocks. No result depends on it, so no contract says which width
 /// a key has, except that of `ExpandedKey::expand_with_width`: a key of another width would only be slower.
+///
+/// # Examples
+///
+/// ```
+/// use deerlapse::aes_gcm::{ExpandedKey, GcmKey, KeyBytes, Width, Work};
+///
+/// let bytes = [7; 16]; // not a real key
+/// let mut key = ExpandedKey::zeros();
+/// key.expand_with_width(KeyBytes::AES_128(&bytes), Width::Bits256, &mut Work::new());
+/// assert_eq!(key.width, Width::Bits256.bits());
+/// ```
 #[derive(Clone, Copy)]
 pub enum Width {
     /// Eight blocks on planes of 128 bits. The faster where vectors have 128 bits, such as SSE2 and NEON.
@@ -54,6 +65,8 @@ impl Width {
     /// ensures { result ≡ width_bits self }
     /// ```
     ///
+    /// Definitions: [`width_bits`](crate::specs::width#width_bits).
+    ///
     /// </details>
     #[inline(always)]
     pub fn bits(self) -> u32 {
@@ -74,6 +87,8 @@ impl Width {
 /// ensures bytes { key_of round_keys.new result ≡ key_bytes bytes.entry }
 /// ensures unused { AreZerosAfter round_keys.new result }
 /// ```
+///
+/// Definitions: [`IsSchedule`](crate::specs::wide_schedule#IsSchedule), [`key_of`](crate::specs::wide_schedule#key_of), [`key_bytes`](aead_ciphers_base::specs::key_bytes#key_bytes), [`AreZerosAfter`](crate::specs::wide_schedule#AreZerosAfter).
 ///
 /// </details>
 #[inline(always)]
@@ -106,6 +121,8 @@ impl<'k, V: simd::Level> KeyRef<'k, V> {
     /// ensures { result ≡ key_of round_keys.now rounds }
     /// ```
     ///
+    /// Definitions: [`IsSchedule`](crate::specs::wide_schedule#IsSchedule), [`HoldsPlanes`](crate::specs::wide_schedule#HoldsPlanes), [`key_of`](crate::specs::wide_schedule#key_of).
+    ///
     /// </details>
     #[inline(always)]
     pub fn new(
@@ -136,6 +153,8 @@ impl<'k, V: simd::Level> KeyRef<'k, V> {
     /// ```text
     /// ensures { result ≡ aes_mask self.now sample }
     /// ```
+    ///
+    /// Definitions: [`aes_mask`](aead_ciphers_base::specs::mask#aes_mask).
     ///
     /// </details>
     #[inline(always)]

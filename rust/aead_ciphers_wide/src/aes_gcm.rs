@@ -17,6 +17,25 @@ pub use pieces::SealState;
 ///
 /// Sealing and opening require the fields to be as `expand` left them, and only read them, so many threads may use a
 /// key at once.
+///
+/// # Examples
+///
+/// ```
+/// use deerlapse::aead::{Aad, Nonce, Unspecified};
+/// use deerlapse::aes_gcm::{ExpandedKey, GcmKey, KeyBytes, Work};
+///
+/// let bytes = [7; 16]; // not a real key
+/// let mut key = ExpandedKey::zeros();
+/// key.expand(KeyBytes::AES_128(&bytes), &mut Work::new());
+/// assert!(key.is_of(&bytes));
+///
+/// let nonce = || Nonce::assume_unique_for_key([1; 12]); // another for each message
+/// let mut message = *b"hello";
+/// let tag = key.seal(nonce(), Aad::empty(), &mut message, &mut Work::new())?;
+/// let len = key.open(nonce(), Aad::empty(), tag, &mut message, 0.., &mut Work::new())?;
+/// assert_eq!(&message[..len], b"hello");
+/// # Ok::<(), Unspecified>(())
+/// ```
 #[repr(C)]
 #[derive(Clone)]
 pub struct ExpandedKey {
@@ -60,6 +79,8 @@ impl ExpandedKey {
     /// ensures worked { Adds work.old work.new 1 0 }
     /// ```
     ///
+    /// Definitions: [`CanAdd`](aead_ciphers_base::specs::work#CanAdd), [`IsExpanded`](crate::specs::expanded_key#IsExpanded), [`bytes_of`](crate::specs::expanded_key#bytes_of), [`key_bytes`](aead_ciphers_base::specs::key_bytes#key_bytes), [`width_bits`](crate::specs::width#width_bits), [`HasZerosAfter`](crate::specs::expanded_key#HasZerosAfter), [`Adds`](aead_ciphers_base::specs::work#Adds).
+    ///
     /// </details>
     pub fn expand_with_width(&mut self, bytes: KeyBytes<'_>, width: Width, work: &mut Work) {
         simd::run(ExpandedKeyExpandWithWidth {
@@ -94,6 +115,8 @@ impl ExpandedKey {
     /// requires { IsExpanded self.now }
     /// ensures { IsTrue result ↔ (bytes_of self.now ≡ bytes.now) }
     /// ```
+    ///
+    /// Definitions: [`IsExpanded`](crate::specs::expanded_key#IsExpanded), [`bytes_of`](crate::specs::expanded_key#bytes_of).
     ///
     /// </details>
     #[inline(always)]
@@ -131,6 +154,8 @@ impl ExpandedKey {
     /// ensures count { IfOk result (λ n. n ≡ length in_out.old - 16 - ciphertext_and_tag.start) }
     /// ensures refused { OnErr result (in_out.new ≡ in_out.old) }
     /// ```
+    ///
+    /// Definitions: [`IsExpanded`](crate::specs::expanded_key#IsExpanded), [`OpenedAttached`](aead_ciphers::specs::gcm#OpenedAttached), [`aes_cipher`](aead_ciphers_base::specs::aes#aes), [`bytes_of`](crate::specs::expanded_key#bytes_of), [`aad_bytes`](aead_ciphers_base::specs::values#aad_bytes).
     ///
     /// </details>
     pub fn open_within_to_front(
@@ -188,6 +213,8 @@ impl ExpandedKey {
     /// ensures cleared { IfOk result (λ state. state.batch ≡ replicate 128 0) }
     /// ```
     ///
+    /// Definitions: [`IsExpanded`](crate::specs::expanded_key#IsExpanded), [`Fits`](aead_ciphers::specs::gcm#Fits), [`aad_bytes`](aead_ciphers_base::specs::values#aad_bytes), [`HasSealed`](crate::specs::pieces#HasSealed), [`aes_cipher`](aead_ciphers_base::specs::aes#aes), [`bytes_of`](crate::specs::expanded_key#bytes_of).
+    ///
     /// </details>
     pub fn begin(&self, nonce: Nonce, aad: Aad<'_>) -> Result<SealState, Unspecified> {
         simd::run(ExpandedKeyBegin {
@@ -221,6 +248,8 @@ impl ExpandedKey {
     /// ensures begun { IfOk result (λ state. HasSealed (aes_cipher (bytes_of self.now)) nonce (joined aad.now) [] [] state) }
     /// ensures cleared { IfOk result (λ state. state.batch ≡ replicate 128 0) }
     /// ```
+    ///
+    /// Definitions: [`IsExpanded`](crate::specs::expanded_key#IsExpanded), [`Fits`](aead_ciphers::specs::gcm#Fits), [`joined`](crate::specs::pieces#joined), [`HasSealed`](crate::specs::pieces#HasSealed), [`aes_cipher`](aead_ciphers_base::specs::aes#aes), [`bytes_of`](crate::specs::expanded_key#bytes_of).
     ///
     /// </details>
     pub fn begin_with_parts(&self, nonce: Nonce, aad: &[&[u8]]) -> Result<SealState, Unspecified> {
@@ -257,6 +286,8 @@ impl ExpandedKey {
     /// ensures refused { OnErr result ((state.new ≡ state.old) × (in_out.new ≡ in_out.old)) }
     /// ```
     ///
+    /// Definitions: [`IsExpanded`](crate::specs::expanded_key#IsExpanded), [`Fits`](aead_ciphers::specs::gcm#Fits), [`SealsPiece`](crate::specs::pieces#SealsPiece), [`aes_cipher`](aead_ciphers_base::specs::aes#aes), [`bytes_of`](crate::specs::expanded_key#bytes_of).
+    ///
     /// </details>
     pub fn update(&self, state: &mut SealState, in_out: &mut [u8]) -> Result<(), Unspecified> {
         simd::run(ExpandedKeyUpdate {
@@ -288,6 +319,8 @@ impl ExpandedKey {
     /// ensures { (nonce aad message ciphertext : List ℕ) → HasSealed (aes_cipher (bytes_of self.now)) nonce aad message ciphertext state → result ≡ gcm_tag (aes_cipher (bytes_of self.now)) nonce aad ciphertext }
     /// ```
     ///
+    /// Definitions: [`IsExpanded`](crate::specs::expanded_key#IsExpanded), [`Fits`](aead_ciphers::specs::gcm#Fits), [`HasSealed`](crate::specs::pieces#HasSealed), [`aes_cipher`](aead_ciphers_base::specs::aes#aes), [`bytes_of`](crate::specs::expanded_key#bytes_of), [`gcm_tag`](aead_ciphers::specs::gcm#gcm_tag).
+    ///
     /// </details>
     pub fn finish(&self, state: SealState) -> Tag {
         simd::run(ExpandedKeyFinish { key: self, state })
@@ -309,6 +342,8 @@ impl ExpandedKey {
     /// requires { IsExpanded self.now }
     /// ensures { result ≡ aes_mask (bytes_of self.now) sample }
     /// ```
+    ///
+    /// Definitions: [`IsExpanded`](crate::specs::expanded_key#IsExpanded), [`aes_mask`](aead_ciphers_base::specs::mask#aes_mask), [`bytes_of`](crate::specs::expanded_key#bytes_of).
     ///
     /// </details>
     pub fn new_mask(&self, sample: Sample) -> [u8; 5] {

@@ -20,6 +20,8 @@ const PAIR_LEN: usize = 2 * BLOCK_LEN;
 /// ensures subkey { subkey products.new ≡ block }
 /// ```
 ///
+/// Definitions: [`ArePowers`](crate::specs::products#ArePowers), [`subkey`](crate::specs::products#subkey).
+///
 /// </details>
 #[inline(always)]
 pub fn expand<V: simd::Level>(products: &mut [u8; 512], squares: &mut [u8; 512], block: Block) {
@@ -51,6 +53,8 @@ impl<'k, V: simd::Level> KeyRef<'k, V> {
     /// requires { ArePowers products.now squares.now }
     /// ensures { result ≡ subkey products.now }
     /// ```
+    ///
+    /// Definitions: [`ArePowers`](crate::specs::products#ArePowers), [`subkey`](crate::specs::products#subkey).
     ///
     /// </details>
     #[inline(always)]

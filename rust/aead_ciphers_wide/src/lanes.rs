@@ -12,6 +12,8 @@ pub trait Lanes: Plane {
     /// ensures { (j : ℕ) → j < Self.width / 64 → lane_of j (Self.number result) ≡ lane }
     /// ```
     ///
+    /// Definitions: [`lane_of`](crate::specs::word#lane_of).
+    ///
     /// </details>
     fn splat(lane: u64) -> Self;
 
@@ -24,6 +26,8 @@ pub trait Lanes: Plane {
     /// ensures { (j : ℕ) → j < Self.width / 64 → lane_of j (Self.number result) ≡ lane_of j (Self.number self) * 2 ^ n % 2 ^ 64 }
     /// ```
     ///
+    /// Definitions: [`lane_of`](crate::specs::word#lane_of).
+    ///
     /// </details>
     fn lanes_left(self, n: u32) -> Self;
 
@@ -35,6 +39,8 @@ pub trait Lanes: Plane {
     /// requires { n < 64 }
     /// ensures { (j : ℕ) → j < Self.width / 64 → lane_of j (Self.number result) ≡ lane_of j (Self.number self) / 2 ^ n }
     /// ```
+    ///
+    /// Definitions: [`lane_of`](crate::specs::word#lane_of).
     ///
     /// </details>
     fn lanes_right(self, n: u32) -> Self;

@@ -69,6 +69,8 @@ impl MessageError {
     /// ensures { result ≡ alert_of self }
     /// ```
     ///
+    /// Definitions: [`alert_of`](crate::specs::steps#alert_of).
+    ///
     /// </details>
     pub fn alert(self) -> Option<AlertDescription> {
         match self {
@@ -92,6 +94,8 @@ impl MessageError {
     /// ```text
     /// ensures { result ≡ quic_code_of self }
     /// ```
+    ///
+    /// Definitions: [`quic_code_of`](crate::specs::steps#quic_code_of).
     ///
     /// </details>
     pub fn quic_code(self) -> Option<u64> {

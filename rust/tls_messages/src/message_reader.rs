@@ -11,6 +11,29 @@ use crate::{KEY_UPDATE_LEN, MESSAGE_HEADER_LEN};
 /// If a record ends within a message, the reader keeps the part of the message. The caller lends it a buffer, whose length is
 /// the most bytes that a message may have. An error ends the connection and closes the reader: every later call that can fail
 /// returns `Closed`.
+///
+/// # Examples
+///
+/// A message that is cut over two records, and a KeyUpdate after it in the second record:
+///
+/// ```
+/// use deerlapse::tls_messages::message_type::{KEY_UPDATE, NEW_SESSION_TICKET};
+/// use deerlapse::tls_messages::{MessageError, MessageReader, Stage};
+///
+/// let mut buffer = [0; 4096];
+/// let mut messages = MessageReader::new(&mut buffer, Stage::Client);
+///
+/// let mut content = &[NEW_SESSION_TICKET, 0, 0, 3, 1][..];
+/// assert_eq!(messages.next(&mut content)?, None);
+/// assert!(messages.is_cut());
+///
+/// let mut content = &[2, 3, KEY_UPDATE, 0, 0, 1, 0][..];
+/// let ticket = [NEW_SESSION_TICKET, 0, 0, 3, 1, 2, 3];
+/// assert_eq!(messages.next(&mut content)?, Some(&ticket[..]));
+/// assert_eq!(messages.next(&mut content)?, Some(&[KEY_UPDATE, 0, 0, 1, 0][..]));
+/// assert_eq!(messages.next(&mut content)?, None);
+/// # Ok::<(), MessageError>(())
+/// ```
 pub struct MessageReader<'b> {
     buffer: &'b mut [u8],
     filled: usize,
@@ -42,6 +65,26 @@ impl<'b> MessageReader<'b> {
 
     /// Sets which messages may come from now on (RFC 8446 sections 4 and 4.6), also if a message is cut. After the peer's
     /// Finished, for example, other messages may come than before.
+    ///
+    /// # Examples
+    ///
+    /// The Finished of a server ends the handshake:
+    ///
+    /// ```
+    /// use deerlapse::tls_messages::message_type::FINISHED;
+    /// use deerlapse::tls_messages::{MessageError, MessageReader, Stage};
+    ///
+    /// let mut buffer = [0; 4096];
+    /// let mut messages = MessageReader::new(&mut buffer, Stage::Handshake);
+    /// let mut content = &[FINISHED, 0, 0, 2, 7, 7][..];
+    /// while let Some(message) = messages.next(&mut content)? {
+    ///     if message[0] == FINISHED {
+    ///         messages.set_stage(Stage::Client);
+    ///     }
+    /// }
+    /// assert_eq!(messages.stage(), Stage::Client);
+    /// # Ok::<(), MessageError>(())
+    /// ```
     ///
     /// <details><summary>Contract</summary>
     ///
@@ -141,6 +184,8 @@ impl<'b> MessageReader<'b> {
     /// ensures begins { IsOk result → Begins self.old.stage self.old.bound (self.old.part ++ content.old.now) }
     /// ensures closed { IsTrue self.old.is_closed → IsErrOf result MessageError.Closed }
     /// ```
+    ///
+    /// Definitions: [`Leaves`](crate::specs::steps#Leaves), [`IsMessage`](crate::specs::messages#IsMessage), [`messages_of`](crate::specs::messages#messages_of), [`part_of`](crate::specs::messages#part_of), [`IsTaken`](crate::specs::messages#IsTaken), [`IsExpected`](crate::specs::messages#IsExpected), [`Begins`](crate::specs::messages#Begins).
     ///
     /// </details>
     pub fn next<'s>(&'s mut self, content: &mut &[u8]) -> Result<Option<&'s [u8]>, MessageError> {

@@ -9,6 +9,17 @@ use crate::message_type::{
 
 /// A stage of a connection at one endpoint, which decides which messages the endpoint may receive. The stages whose names begin
 /// with `Quic` are for the CRYPTO frames of QUIC.
+///
+/// # Examples
+///
+/// ```
+/// use deerlapse::tls_messages::Stage;
+/// use deerlapse::tls_messages::message_type::{KEY_UPDATE, NEW_SESSION_TICKET};
+///
+/// assert!(Stage::Client.allows(NEW_SESSION_TICKET));
+/// assert!(!Stage::Server.allows(NEW_SESSION_TICKET));
+/// assert!(!Stage::QuicClient.allows(KEY_UPDATE)); // RFC 9001 section 6
+/// ```
 #[derive(Clone, Copy, Debug, PartialEq, Eq)]
 pub enum Stage {
     /// The handshake: every message but a KeyUpdate, which must not precede the Finished (RFC 8446 section 4.6.3). The caller
@@ -40,6 +51,8 @@ impl Stage {
     /// ```text
     /// ensures { result ≡ may_come self message_type }
     /// ```
+    ///
+    /// Definitions: [`may_come`](crate::specs::messages#may_come).
     ///
     /// </details>
     pub fn allows(self, message_type: u8) -> bool {
@@ -77,6 +90,8 @@ impl Stage {
     /// ensures { result ≡ may_send self message_type }
     /// ```
     ///
+    /// Definitions: [`may_send`](crate::specs::messages#may_send).
+    ///
     /// </details>
     pub fn may_send(self, message_type: u8) -> bool {
         match self {
@@ -107,6 +122,8 @@ impl Stage {
     /// ensures whole { IsSome result ↔ (part_of messages.now ≡ []) }
     /// ensures all { IfSome result (λ may_send. may_send ≡ may_send_all self (messages_of messages.now)) }
     /// ```
+    ///
+    /// Definitions: [`part_of`](crate::specs::messages#part_of), [`may_send_all`](crate::specs::messages#may_send_all), [`messages_of`](crate::specs::messages#messages_of).
     ///
     /// </details>
     pub fn may_send_all(self, messages: &[u8]) -> Option<bool> {

@@ -15,6 +15,24 @@ use core::ops::RangeFrom;
 ///
 /// Sealing and opening require the fields to be as `expand` left them, and only read them, so many threads may use a key at
 /// once. The key that a call derives for its message, and its expansion, stay in the memory of the call.
+///
+/// # Examples
+///
+/// ```
+/// use deerlapse::aead::{Aad, Unspecified};
+/// use deerlapse::aes_gcm::Width;
+/// use deerlapse::xaes::{ExpandedKey, XNonce};
+///
+/// let mut key = ExpandedKey::zeros();
+/// key.expand(&[7; 32], Width::Bits128); // not a real key
+///
+/// let nonce = || XNonce::assume_unique_for_key([1; 24]); // another for each message
+/// let (mut sealed, mut opened) = ([0; 5], [0; 5]);
+/// let tag = key.seal_to(nonce(), Aad::empty(), b"hello", &mut sealed)?;
+/// key.open_to(nonce(), Aad::empty(), tag, &sealed, &mut opened)?;
+/// assert_eq!(&opened, b"hello");
+/// # Ok::<(), Unspecified>(())
+/// ```
 #[repr(C)]
 #[derive(Clone)]
 pub struct ExpandedKey {
@@ -46,6 +64,8 @@ impl ExpandedKey {
     /// ensures { result ≡ zero_key }
     /// ```
     ///
+    /// Definitions: [`zero_key`](crate::specs::expanded#zero_key).
+    ///
     /// </details>
     pub fn zeros() -> Self {
         ExpandedKey {
@@ -66,6 +86,8 @@ impl ExpandedKey {
     /// ensures bytes { bytes_of self.new ≡ bytes.now }
     /// ensures width { self.new.width ≡ width_bits width }
     /// ```
+    ///
+    /// Definitions: [`IsExpanded`](crate::specs::expanded#IsExpanded), [`bytes_of`](crate::specs::expanded#bytes_of), [`width_bits`](aead_ciphers_wide::specs::width#width_bits).
     ///
     /// </details>
     pub fn expand(&mut self, bytes: &[u8; AES_256_KEY_LEN], width: Width) {
@@ -114,6 +136,8 @@ impl ExpandedKey {
     /// ensures width { message_key.new.width ≡ message_width self.now }
     /// ```
     ///
+    /// Definitions: [`IsExpanded`](crate::specs::expanded#IsExpanded), [`IsGcmKey`](aead_ciphers_wide::specs::expanded_key#IsExpanded), [`gcm_key_bytes`](aead_ciphers_wide::specs::expanded_key#bytes_of), [`message_key_of`](crate::specs::xaes#message_key), [`bytes_of`](crate::specs::expanded#bytes_of), [`message_nonce`](crate::specs::xaes#message_nonce), [`message_width`](crate::specs::expanded#message_width).
+    ///
     /// </details>
     pub fn expand_message_key(
         &self,
@@ -155,6 +179,8 @@ impl ExpandedKey {
     /// ensures refused { OnErr result (in_out.new ≡ in_out.old) }
     /// ```
     ///
+    /// Definitions: [`IsExpanded`](crate::specs::expanded#IsExpanded), [`Fits`](aead_ciphers::specs::gcm#Fits), [`aad_bytes`](aead_ciphers_base::specs::values#aad_bytes), [`xaes_encrypted`](crate::specs::xaes#xaes_encrypted), [`bytes_of`](crate::specs::expanded#bytes_of), [`xaes_tag`](crate::specs::xaes#xaes_tag).
+    ///
     /// </details>
     pub fn seal(&self, nonce: XNonce, aad: Aad<'_>, in_out: &mut [u8]) -> Result<Tag, Unspecified> {
         let mut key = aes_gcm::ExpandedKey::zeros();
@@ -178,6 +204,8 @@ impl ExpandedKey {
     /// ensures tag { IfOk result (λ tag. tag ≡ xaes_tag (bytes_of self.now) nonce (aad_bytes aad.entry) out.new) }
     /// ensures refused { OnErr result (out.new ≡ out.old) }
     /// ```
+    ///
+    /// Definitions: [`IsExpanded`](crate::specs::expanded#IsExpanded), [`Fits`](aead_ciphers::specs::gcm#Fits), [`aad_bytes`](aead_ciphers_base::specs::values#aad_bytes), [`xaes_encrypted`](crate::specs::xaes#xaes_encrypted), [`bytes_of`](crate::specs::expanded#bytes_of), [`xaes_tag`](crate::specs::xaes#xaes_tag).
     ///
     /// </details>
     pub fn seal_to(
@@ -214,6 +242,8 @@ impl ExpandedKey {
     /// ensures refused { OnErr result (in_out.new ≡ in_out.old) }
     /// ```
     ///
+    /// Definitions: [`IsExpanded`](crate::specs::expanded#IsExpanded), [`XaesOpened`](crate::specs::xaes#XaesOpened), [`bytes_of`](crate::specs::expanded#bytes_of), [`aad_bytes`](aead_ciphers_base::specs::values#aad_bytes).
+    ///
     /// </details>
     pub fn open(
         &self,
@@ -239,6 +269,8 @@ impl ExpandedKey {
     /// ensures count { IfOk result (λ n. n ≡ length in_out.old - tag_len - ciphertext_and_tag.start) }
     /// ensures refused { OnErr result (in_out.new ≡ in_out.old) }
     /// ```
+    ///
+    /// Definitions: [`IsExpanded`](crate::specs::expanded#IsExpanded), [`XaesOpenedAttached`](crate::specs::xaes#XaesOpenedAttached), [`bytes_of`](crate::specs::expanded#bytes_of), [`aad_bytes`](aead_ciphers_base::specs::values#aad_bytes), [`tag_len`](aead_ciphers::specs::gcm#tag_len).
     ///
     /// </details>
     pub fn open_within_to_front(
@@ -269,6 +301,8 @@ impl ExpandedKey {
     /// ensures plaintext { OnOk result (out.new ≡ xaes_decrypted (bytes_of self.now) nonce ciphertext.now) }
     /// ensures refused { OnErr result (out.new ≡ out.old) }
     /// ```
+    ///
+    /// Definitions: [`IsExpanded`](crate::specs::expanded#IsExpanded), [`Fits`](aead_ciphers::specs::gcm#Fits), [`aad_bytes`](aead_ciphers_base::specs::values#aad_bytes), [`xaes_tag`](crate::specs::xaes#xaes_tag), [`bytes_of`](crate::specs::expanded#bytes_of), [`xaes_decrypted`](crate::specs::xaes#xaes_decrypted).
     ///
     /// </details>
     pub fn open_to(

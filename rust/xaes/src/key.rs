@@ -22,6 +22,27 @@ use core::ops::RangeFrom;
 /// it. Neither is overwritten when the call returns, since no contract can say what the memory of a call holds afterwards.
 ///
 /// As AES-GCM, XAES-256-GCM does not commit to the key: a ciphertext and tag can be made that two keys open.
+///
+/// # Examples
+///
+/// The key, the nonce and the message of a vector of the specification:
+///
+/// ```
+/// use deerlapse::aead::{Aad, Unspecified};
+/// use deerlapse::xaes::{XNonce, Xaes256Gcm};
+///
+/// let key = Xaes256Gcm::new(&[1; 32]); // a real key is drawn at random and kept secret
+/// let nonce = || XNonce::assume_unique_for_key(*b"ABCDEFGHIJKLMNOPQRSTUVWX");
+///
+/// let mut message = b"XAES-256-GCM".to_vec();
+/// key.seal_in_place_append_tag(nonce(), Aad::empty(), &mut message)?;
+/// let ciphertext = [0xce, 0x54, 0x6e, 0xf6, 0x3c, 0x9c, 0xc6, 0x07, 0x65, 0x92, 0x36, 0x09];
+/// assert_eq!(message[..12], ciphertext);
+///
+/// let len = key.open_in_place_to_front(nonce(), Aad::empty(), &mut message)?;
+/// assert_eq!(&message[..len], b"XAES-256-GCM");
+/// # Ok::<(), Unspecified>(())
+/// ```
 pub struct Xaes256Gcm {
     expanded: ExpandedKey,
 }
@@ -61,6 +82,8 @@ impl Xaes256Gcm {
     /// ensures { result ≡ bytes_of key }
     /// ```
     ///
+    /// Definitions: [`IsExpanded`](crate::specs::expanded#IsExpanded), [`bytes_of`](crate::specs::expanded#bytes_of).
+    ///
     /// </details>
     pub fn from_expanded(key: ExpandedKey) -> Self {
         Xaes256Gcm { expanded: key }
@@ -73,6 +96,8 @@ impl Xaes256Gcm {
     /// ```text
     /// ensures { result ≡ derived_key self.now context.now }
     /// ```
+    ///
+    /// Definitions: [`derived_key`](crate::specs::derivation#derived_key).
     ///
     /// </details>
     pub fn derived_key(&self, context: &Context) -> [u8; AES_256_KEY_LEN] {
@@ -92,6 +117,8 @@ impl Xaes256Gcm {
     /// ```text
     /// ensures { result ≡ derived_block self.now context.now first ++ derived_block self.now context.now second }
     /// ```
+    ///
+    /// Definitions: [`derived_block`](crate::specs::derivation#derived_block).
     ///
     /// </details>
     pub fn derived_blocks(
@@ -138,6 +165,8 @@ impl Xaes256Gcm {
     /// ensures refused { OnErr result (in_out.new ≡ in_out.old) }
     /// ```
     ///
+    /// Definitions: [`Fits`](aead_ciphers::specs::gcm#Fits), [`aad_bytes`](aead_ciphers_base::specs::values#aad_bytes), [`xaes_encrypted`](crate::specs::xaes#xaes_encrypted), [`xaes_tag`](crate::specs::xaes#xaes_tag).
+    ///
     /// </details>
     pub fn seal_in_place_separate_tag(
         &self,
@@ -168,6 +197,8 @@ impl Xaes256Gcm {
     /// ensures refuses { OnErr result (Fits (length (aad_bytes aad.entry)) (length (B.bytes in_out.old)) → B.may_refuse in_out.old) }
     /// ```
     ///
+    /// Definitions: [`xaes_sealed`](crate::specs::xaes#xaes_sealed), [`aad_bytes`](aead_ciphers_base::specs::values#aad_bytes), [`tag_len`](aead_ciphers::specs::gcm#tag_len), [`Fits`](aead_ciphers::specs::gcm#Fits).
+    ///
     /// </details>
     pub fn seal_in_place_append_tag<B: InOut>(
         &self,
@@ -195,6 +226,8 @@ impl Xaes256Gcm {
     /// ensures tag { IfOk result (λ tag. tag ≡ xaes_tag self.now nonce (aad_bytes aad.entry) out.new) }
     /// ensures refused { OnErr result (out.new ≡ out.old) }
     /// ```
+    ///
+    /// Definitions: [`Fits`](aead_ciphers::specs::gcm#Fits), [`aad_bytes`](aead_ciphers_base::specs::values#aad_bytes), [`xaes_encrypted`](crate::specs::xaes#xaes_encrypted), [`xaes_tag`](crate::specs::xaes#xaes_tag).
     ///
     /// </details>
     pub fn seal_to(
@@ -227,6 +260,8 @@ impl Xaes256Gcm {
     /// ensures count { IfOk result (λ n. n ≡ length in_out.old - ciphertext.start) }
     /// ensures refused { OnErr result (in_out.new ≡ in_out.old) }
     /// ```
+    ///
+    /// Definitions: [`XaesOpened`](crate::specs::xaes#XaesOpened), [`aad_bytes`](aead_ciphers_base::specs::values#aad_bytes).
     ///
     /// </details>
     pub fn open_in_place_separate_tag_to_front(
@@ -262,6 +297,8 @@ impl Xaes256Gcm {
     /// ensures refused { OnErr result (in_out.new ≡ in_out.old) }
     /// ```
     ///
+    /// Definitions: [`XaesOpenedAttached`](crate::specs::xaes#XaesOpenedAttached), [`aad_bytes`](aead_ciphers_base::specs::values#aad_bytes), [`tag_len`](aead_ciphers::specs::gcm#tag_len).
+    ///
     /// </details>
     pub fn open_within_to_front(
         &self,
@@ -283,6 +320,8 @@ impl Xaes256Gcm {
     /// ensures count { IfOk result (λ n. n ≡ length in_out.old - tag_len) }
     /// ensures refused { OnErr result (in_out.new ≡ in_out.old) }
     /// ```
+    ///
+    /// Definitions: [`XaesOpenedAttached`](crate::specs::xaes#XaesOpenedAttached), [`aad_bytes`](aead_ciphers_base::specs::values#aad_bytes), [`tag_len`](aead_ciphers::specs::gcm#tag_len).
     ///
     /// </details>
     pub fn open_in_place_to_front(
@@ -309,6 +348,8 @@ impl Xaes256Gcm {
     /// ensures plaintext { OnOk result (out.new ≡ xaes_decrypted self.now nonce ciphertext.now) }
     /// ensures refused { OnErr result (out.new ≡ out.old) }
     /// ```
+    ///
+    /// Definitions: [`Fits`](aead_ciphers::specs::gcm#Fits), [`aad_bytes`](aead_ciphers_base::specs::values#aad_bytes), [`xaes_tag`](crate::specs::xaes#xaes_tag), [`xaes_decrypted`](crate::specs::xaes#xaes_decrypted).
     ///
     /// </details>
     pub fn open_to(

@@ -9,6 +9,19 @@ pub const XAES_NONCE_LEN: usize = CONTEXT_LEN + NONCE_LEN;
 
 /// A nonce of XAES-256-GCM: 24 bytes that are used only once under a key, such as bytes drawn at random for each message. Calls
 /// consume it, and it cannot be cloned.
+///
+/// # Examples
+///
+/// ```
+/// use deerlapse::aead::Unspecified;
+/// use deerlapse::xaes::{XAES_NONCE_LEN, XNonce};
+///
+/// let drawn = [7; XAES_NONCE_LEN]; // in a program, by the system's generator
+/// let nonce = XNonce::try_assume_unique_for_key(&drawn)?;
+/// assert_eq!(nonce.as_ref(), &drawn);
+/// assert!(XNonce::try_assume_unique_for_key(&drawn[1..]).is_err());
+/// # Ok::<(), Unspecified>(())
+/// ```
 pub struct XNonce {
     bytes: [u8; XAES_NONCE_LEN],
 }

@@ -39,6 +39,8 @@ impl Algorithm {
     /// ensures aes_256_gcm { self.now ≡ AES_256_GCM → result ≡ 32 }
     /// ```
     ///
+    /// Definitions: [`key_len`](crate::specs::algorithm#key_len).
+    ///
     /// </details>
     pub fn key_len(&self) -> usize {
         match self.id {
@@ -54,6 +56,8 @@ impl Algorithm {
     /// ```text
     /// ensures { result ≡ tag_len }
     /// ```
+    ///
+    /// Definitions: [`tag_len`](crate::specs::gcm#tag_len).
     ///
     /// </details>
     pub fn tag_len(&self) -> usize {
@@ -81,6 +85,8 @@ impl Algorithm {
     /// ensures accepted { IsOk result ↔ (length bytes.now ≡ key_len self.now) }
     /// ensures bytes { IfOk result (λ key. key_bytes key ≡ bytes.now) }
     /// ```
+    ///
+    /// Definitions: [`key_len`](crate::specs::algorithm#key_len), [`key_bytes`](aead_ciphers_base::specs::key_bytes#key_bytes).
     ///
     /// </details>
     pub fn key_bytes<'a>(&self, bytes: &'a [u8]) -> Result<KeyBytes<'a>, Unspecified> {

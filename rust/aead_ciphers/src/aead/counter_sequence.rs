@@ -5,6 +5,18 @@ use crate::aead::{NONCE_LEN, Nonce, NonceSequence, Unspecified};
 /// A sequence of 12-byte nonces: a prefix of 4 bytes, which is the same in all of them, followed by a number in 8
 /// big-endian bytes, which counts up (the fixed field and the invocation field of SP 800-38D section 8.2.1). It cannot
 /// be cloned. ring has no such type.
+///
+/// # Examples
+///
+/// ```
+/// use deerlapse::aead::{CounterSequence, NonceSequence, Unspecified};
+///
+/// let mut sequence = CounterSequence::new([1, 2, 3, 4], 0x05060708090a0bff, 2)?;
+/// assert_eq!(sequence.advance()?.as_ref(), &[1, 2, 3, 4, 5, 6, 7, 8, 9, 10, 11, 255]);
+/// assert_eq!(sequence.advance()?.as_ref(), &[1, 2, 3, 4, 5, 6, 7, 8, 9, 10, 12, 0]);
+/// assert!(sequence.advance().is_err());
+/// # Ok::<(), Unspecified>(())
+/// ```
 pub struct CounterSequence {
     prefix: [u8; 4],
     first: u64,

@@ -9,6 +9,63 @@ use alloc::vec::Vec;
 
 /// A growable buffer of bytes that is sealed in place: it holds the plaintext before the call, and the ciphertext
 /// followed by the 16-byte tag after it.
+///
+/// # Examples
+///
+/// A packet of at most 64 bytes, which needs no allocator:
+///
+/// ```
+/// use deerlapse::aead::{
+///     AES_128_GCM, Aad, InOut, LessSafeKey, MAX_TAG_LEN, Nonce, UnboundKey, Unspecified,
+/// };
+///
+/// struct Packet {
+///     bytes: [u8; 64],
+///     len: usize,
+/// }
+///
+/// impl InOut for Packet {
+///     fn as_mut_bytes(&mut self) -> &mut [u8] {
+///         &mut self.bytes[..self.len]
+///     }
+///
+///     fn grow_by_tag(&mut self) -> Result<(), Unspecified> {
+///         let end = self.len + MAX_TAG_LEN;
+///         self.bytes.get_mut(self.len..end).ok_or(Unspecified)?.fill(0);
+///         self.len = end;
+///         Ok(())
+///     }
+///
+///     fn cut_tag(&mut self) {
+///         self.len -= MAX_TAG_LEN;
+///     }
+/// }
+///
+/// let key = LessSafeKey::new(UnboundKey::new(&AES_128_GCM, &[7; 16])?); // not a real key
+/// let nonce = Nonce::assume_unique_for_key([1; 12]);
+///
+/// let mut packet = Packet { bytes: [0; 64], len: 5 };
+/// packet.as_mut_bytes().copy_from_slice(b"hello");
+/// key.seal_in_place_append_tag(nonce, Aad::empty(), &mut packet)?;
+/// assert_eq!(packet.len, 5 + 16);
+/// # Ok::<(), Unspecified>(())
+/// ```
+///
+/// <details><summary>Ghost items</summary>
+///
+/// ```text
+/// // The bytes in the buffer.
+/// ghost bytes: { Self → List ℕ };
+/// // The buffer with its bytes replaced by equally many others.
+/// ghost with_bytes: { Self → List ℕ → Self };
+/// // What holds of the buffer whenever `grow_by_tag` fails.
+/// ghost may_refuse: { Self → Type 0 };
+/// // What holds of the buffer whenever `grow_by_tag` succeeds.
+/// ghost may_grant: { Self → Type 0 };
+/// ghost bytes_with_bytes: { (x : Self) (bs : List ℕ) → length bs ≡ length (bytes x) → bytes (with_bytes x bs) ≡ bs };
+/// ```
+///
+/// </details>
 pub trait InOut {
     /// Returns the bytes as a mutable slice.
     ///
@@ -37,6 +94,8 @@ pub trait InOut {
     /// ensures kept { OnErr result (bytes self.new ≡ bytes self.old) }
     /// ```
     ///
+    /// Definitions: [`tag_len`](crate::specs::gcm#tag_len).
+    ///
     /// </details>
     fn grow_by_tag(&mut self) -> Result<(), Unspecified>;
 
@@ -48,6 +107,8 @@ pub trait InOut {
     /// requires { tag_len ≤ length (bytes self.old) }
     /// ensures { bytes self.new ≡ take (length (bytes self.old) - tag_len) (bytes self.old) }
     /// ```
+    ///
+    /// Definitions: [`tag_len`](crate::specs::gcm#tag_len).
     ///
     /// </details>
     fn cut_tag(&mut self);
@@ -73,6 +134,8 @@ impl InOut for Vec<u8> {
     /// ensures bytes { self.new.items ≡ take (length self.old.items - tag_len) self.old.items }
     /// ensures capacity { vec_capacity self.new ≡ vec_capacity self.old }
     /// ```
+    ///
+    /// Definitions: [`tag_len`](crate::specs::gcm#tag_len).
     ///
     /// </details>
     fn cut_tag(&mut self) {

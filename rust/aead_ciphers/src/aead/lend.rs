@@ -29,6 +29,8 @@ pub(crate) fn lend_plaintext(
 /// ensures value { IfSome result (λ parts. (parts.0.now ≡ take (count_of opened) in_out.old) × (parts.1.now ≡ drop (count_of opened) in_out.old)) }
 /// ```
 ///
+/// Definitions: [`count_of`](crate::specs::lending#count_of).
+///
 /// </details>
 pub fn lend_plaintext_and_rest(
     in_out: &mut [u8],

@@ -13,6 +13,8 @@ use core::ops::RangeFrom;
 
 /// An AEAD key whose calls take the nonce as an argument. It is the caller's responsibility that no nonce is used twice
 /// under one key (SP 800-38D section 8).
+///
+/// Programs name it by an alias over a cipher, such as `aead_ciphers_wide::aead::LessSafeKey`, which has an example.
 pub struct LessSafeKey<K: GcmKey> {
     key: K,
     algorithm: &'static Algorithm,
@@ -57,6 +59,8 @@ impl<K: GcmKey> LessSafeKey<K> {
     /// requires lengths { length (K.bytes_of key) ≡ key_len algorithm.now }
     /// ensures { result ≡ record { algorithm = algorithm.now; bytes = K.bytes_of key } }
     /// ```
+    ///
+    /// Definitions: [`key_len`](crate::specs::algorithm#key_len).
     ///
     /// </details>
     pub fn from_expanded(algorithm: &'static Algorithm, key: K) -> Self {
@@ -108,6 +112,8 @@ impl<K: GcmKey> LessSafeKey<K> {
     /// ensures refused { OnErr result (in_out.new ≡ in_out.old) }
     /// ```
     ///
+    /// Definitions: [`Fits`](crate::specs::gcm#Fits), [`aad_bytes`](aead_ciphers_base::specs::values#aad_bytes), [`gcm_encrypted`](crate::specs::gcm#gcm_encrypted), [`aes`](aead_ciphers_base::specs::aes#aes), [`gcm_tag`](crate::specs::gcm#gcm_tag).
+    ///
     /// </details>
     pub fn seal_in_place_separate_tag(
         &self,
@@ -139,6 +145,8 @@ impl<K: GcmKey> LessSafeKey<K> {
     /// ensures fits { IsOk result → Fits (length (aad_bytes aad.entry)) (length (B.bytes in_out.old)) }
     /// ensures refuses { OnErr result (Fits (length (aad_bytes aad.entry)) (length (B.bytes in_out.old)) → B.may_refuse in_out.old) }
     /// ```
+    ///
+    /// Definitions: [`gcm_sealed`](crate::specs::gcm#gcm_sealed), [`aes`](aead_ciphers_base::specs::aes#aes), [`aad_bytes`](aead_ciphers_base::specs::values#aad_bytes), [`tag_len`](crate::specs::gcm#tag_len), [`Fits`](crate::specs::gcm#Fits).
     ///
     /// </details>
     pub fn seal_in_place_append_tag<B: InOut>(
@@ -190,6 +198,8 @@ impl<K: GcmKey> LessSafeKey<K> {
     /// ensures refused { OnErr result (packet.new ≡ packet.old) }
     /// ```
     ///
+    /// Definitions: [`PacketFits`](crate::specs::packet#PacketFits), [`sealed_packet`](crate::specs::packet#sealed_packet).
+    ///
     /// </details>
     pub fn seal_packet_in_place(
         &self,
@@ -229,6 +239,8 @@ impl<K: GcmKey> LessSafeKey<K> {
     /// ensures plaintext { IfOk result (λ plaintext. plaintext.now ≡ gcm_decrypted (aes self.now.bytes) nonce (drop ciphertext.start in_out.old)) }
     /// ```
     ///
+    /// Definitions: [`LendsFront`](crate::specs::lending#LendsFront), [`Opened`](crate::specs::gcm#Opened), [`aes`](aead_ciphers_base::specs::aes#aes), [`aad_bytes`](aead_ciphers_base::specs::values#aad_bytes), [`lent_buffer`](crate::specs::lending#lent_buffer), [`gcm_decrypted`](crate::specs::gcm#gcm_decrypted).
+    ///
     /// </details>
     pub fn open_in_place_separate_tag<'a>(
         &self,
@@ -252,6 +264,8 @@ impl<K: GcmKey> LessSafeKey<K> {
     /// ensures count { IfOk result (λ n. n ≡ length in_out.old - ciphertext.start) }
     /// ensures refused { OnErr result (in_out.new ≡ in_out.old) }
     /// ```
+    ///
+    /// Definitions: [`Opened`](crate::specs::gcm#Opened), [`aes`](aead_ciphers_base::specs::aes#aes), [`aad_bytes`](aead_ciphers_base::specs::values#aad_bytes).
     ///
     /// </details>
     pub fn open_in_place_separate_tag_to_front(
@@ -288,6 +302,8 @@ impl<K: GcmKey> LessSafeKey<K> {
     /// ensures plaintext { IfOk result (λ plaintext. plaintext.now ≡ gcm_decrypted (aes self.now.bytes) nonce (drop ciphertext_and_tag.start (take (length in_out.old - tag_len) in_out.old))) }
     /// ```
     ///
+    /// Definitions: [`LendsFront`](crate::specs::lending#LendsFront), [`tag_len`](crate::specs::gcm#tag_len), [`OpenedAttached`](crate::specs::gcm#OpenedAttached), [`aes`](aead_ciphers_base::specs::aes#aes), [`aad_bytes`](aead_ciphers_base::specs::values#aad_bytes), [`lent_buffer`](crate::specs::lending#lent_buffer), [`gcm_decrypted`](crate::specs::gcm#gcm_decrypted).
+    ///
     /// </details>
     pub fn open_within<'a>(
         &self,
@@ -310,6 +326,8 @@ impl<K: GcmKey> LessSafeKey<K> {
     /// ensures count { IfOk result (λ n. n ≡ length in_out.old - tag_len - ciphertext_and_tag.start) }
     /// ensures refused { OnErr result (in_out.new ≡ in_out.old) }
     /// ```
+    ///
+    /// Definitions: [`OpenedAttached`](crate::specs::gcm#OpenedAttached), [`aes`](aead_ciphers_base::specs::aes#aes), [`aad_bytes`](aead_ciphers_base::specs::values#aad_bytes), [`tag_len`](crate::specs::gcm#tag_len).
     ///
     /// </details>
     pub fn open_within_to_front(
@@ -343,6 +361,8 @@ impl<K: GcmKey> LessSafeKey<K> {
     /// ensures plaintext { IfOk result (λ plaintext. plaintext.now ≡ gcm_decrypted (aes self.now.bytes) nonce (take (length in_out.old - tag_len) in_out.old)) }
     /// ```
     ///
+    /// Definitions: [`LendsFront`](crate::specs::lending#LendsFront), [`tag_len`](crate::specs::gcm#tag_len), [`OpenedAttached`](crate::specs::gcm#OpenedAttached), [`aes`](aead_ciphers_base::specs::aes#aes), [`aad_bytes`](aead_ciphers_base::specs::values#aad_bytes), [`lent_buffer`](crate::specs::lending#lent_buffer), [`gcm_decrypted`](crate::specs::gcm#gcm_decrypted).
+    ///
     /// </details>
     pub fn open_in_place<'a>(
         &self,
@@ -364,6 +384,8 @@ impl<K: GcmKey> LessSafeKey<K> {
     /// ensures count { IfOk result (λ n. n ≡ length in_out.old - tag_len) }
     /// ensures refused { OnErr result (in_out.new ≡ in_out.old) }
     /// ```
+    ///
+    /// Definitions: [`OpenedAttached`](crate::specs::gcm#OpenedAttached), [`aes`](aead_ciphers_base::specs::aes#aes), [`aad_bytes`](aead_ciphers_base::specs::values#aad_bytes), [`tag_len`](crate::specs::gcm#tag_len).
     ///
     /// </details>
     pub fn open_in_place_to_front(
@@ -391,6 +413,8 @@ impl<K: GcmKey> LessSafeKey<K> {
     /// ensures plaintext { OnOk result (out.new ≡ gcm_decrypted (aes self.now.bytes) nonce ciphertext.now) }
     /// ensures refused { OnErr result (out.new ≡ out.old) }
     /// ```
+    ///
+    /// Definitions: [`Fits`](crate::specs::gcm#Fits), [`aad_bytes`](aead_ciphers_base::specs::values#aad_bytes), [`gcm_tag`](crate::specs::gcm#gcm_tag), [`aes`](aead_ciphers_base::specs::aes#aes), [`gcm_decrypted`](crate::specs::gcm#gcm_decrypted).
     ///
     /// </details>
     pub fn open_to(
@@ -421,6 +445,8 @@ impl<K: GcmKey> LessSafeKey<K> {
     /// ensures count { IfOk result (λ n. n ≡ length packet.old - tag_len - header_len) }
     /// ensures refused { OnErr result (packet.new ≡ packet.old) }
     /// ```
+    ///
+    /// Definitions: [`OpenedPacket`](crate::specs::packet#OpenedPacket), [`tag_len`](crate::specs::gcm#tag_len).
     ///
     /// </details>
     pub fn open_packet_in_place_after_header(

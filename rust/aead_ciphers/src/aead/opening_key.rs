@@ -8,6 +8,8 @@ use core::fmt;
 use core::ops::RangeFrom;
 
 /// An AEAD key for opening that is bound to a nonce sequence: each call uses the next nonce. It cannot be cloned.
+///
+/// Programs name it by an alias over a cipher, such as `aead_ciphers_wide::aead::OpeningKey`, which has an example.
 pub struct OpeningKey<K: GcmKey, N> {
     key: LessSafeKey<K>,
     nonce_sequence: N,
@@ -44,6 +46,8 @@ impl<K: GcmKey, N: NonceSequence> OpeningKey<K, N> {
     /// ensures count { IfOk result (λ n. n ≡ length in_out.old - tag_len - ciphertext_and_tag.start) }
     /// ```
     ///
+    /// Definitions: [`OpeningCall`](crate::specs::bound_calls#OpeningCall), [`aad_bytes`](aead_ciphers_base::specs::values#aad_bytes), [`tag_len`](crate::specs::gcm#tag_len).
+    ///
     /// </details>
     pub fn open_within_to_front(
         &mut self,
@@ -65,6 +69,8 @@ impl<K: GcmKey, N: NonceSequence> OpeningKey<K, N> {
     /// ensures call { OpeningCall N.spent N.is_closed N.origin N.gives N.refuses N.is_next self.old self.new (aad_bytes aad.entry) 0 in_out.old in_out.new result }
     /// ensures count { IfOk result (λ n. n ≡ length in_out.old - tag_len) }
     /// ```
+    ///
+    /// Definitions: [`OpeningCall`](crate::specs::bound_calls#OpeningCall), [`aad_bytes`](aead_ciphers_base::specs::values#aad_bytes), [`tag_len`](crate::specs::gcm#tag_len).
     ///
     /// </details>
     pub fn open_in_place_to_front(
@@ -97,6 +103,8 @@ impl<K: GcmKey, N: NonceSequence> OpeningKey<K, N> {
     /// ensures plaintext { IfOk result (λ plaintext. UnderNext (N.is_next self.old.sequence) (λ nonce. plaintext.now ≡ gcm_decrypted (aes self.old.key.bytes) nonce (drop ciphertext_and_tag.start (take (length in_out.old - tag_len) in_out.old)))) }
     /// ```
     ///
+    /// Definitions: [`LendsFront`](crate::specs::lending#LendsFront), [`tag_len`](crate::specs::gcm#tag_len), [`OpeningCall`](crate::specs::bound_calls#OpeningCall), [`aad_bytes`](aead_ciphers_base::specs::values#aad_bytes), [`lent_buffer`](crate::specs::lending#lent_buffer), [`UnderNext`](crate::specs::nonce_sequence#UnderNext), [`gcm_decrypted`](crate::specs::gcm#gcm_decrypted), [`aes`](aead_ciphers_base::specs::aes#aes).
+    ///
     /// </details>
     pub fn open_within<'a>(
         &mut self,
@@ -118,6 +126,8 @@ impl<K: GcmKey, N: NonceSequence> OpeningKey<K, N> {
     /// ensures count { IfOk result (λ plaintext. length plaintext.now ≡ length in_out.old - tag_len) }
     /// ensures plaintext { IfOk result (λ plaintext. UnderNext (N.is_next self.old.sequence) (λ nonce. plaintext.now ≡ gcm_decrypted (aes self.old.key.bytes) nonce (take (length in_out.old - tag_len) in_out.old))) }
     /// ```
+    ///
+    /// Definitions: [`LendsFront`](crate::specs::lending#LendsFront), [`tag_len`](crate::specs::gcm#tag_len), [`OpeningCall`](crate::specs::bound_calls#OpeningCall), [`aad_bytes`](aead_ciphers_base::specs::values#aad_bytes), [`lent_buffer`](crate::specs::lending#lent_buffer), [`UnderNext`](crate::specs::nonce_sequence#UnderNext), [`gcm_decrypted`](crate::specs::gcm#gcm_decrypted), [`aes`](aead_ciphers_base::specs::aes#aes).
     ///
     /// </details>
     pub fn open_in_place<'a>(

@@ -60,6 +60,8 @@ impl Algorithm {
     /// ensures chacha20 { self.now ≡ CHACHA20 → result ≡ 32 }
     /// ```
     ///
+    /// Definitions: [`key_len`](crate::specs::header_protection#key_len).
+    ///
     /// </details>
     pub fn key_len(&self) -> usize {
         match self.id {
@@ -109,6 +111,8 @@ impl HeaderProtectionKey {
     /// ensures bytes { IfOk result (λ key. key.bytes ≡ key_bytes.now) }
     /// ```
     ///
+    /// Definitions: [`key_len`](crate::specs::header_protection#key_len).
+    ///
     /// </details>
     pub fn new(algorithm: &Algorithm, key_bytes: &[u8]) -> Result<Self, Unspecified> {
         let inner = match algorithm.id {
@@ -140,6 +144,8 @@ impl HeaderProtectionKey {
     /// ensures accepted { IsOk result ↔ (length sample.now ≡ 16) }
     /// ensures mask { IfOk result (λ mask. mask ≡ header_protection self.now.algorithm self.now.bytes sample.now) }
     /// ```
+    ///
+    /// Definitions: [`header_protection`](crate::specs::header_protection#header_protection).
     ///
     /// </details>
     pub fn new_mask(&self, sample: &[u8]) -> Result<[u8; 5], Unspecified> {

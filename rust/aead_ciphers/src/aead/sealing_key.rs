@@ -6,6 +6,8 @@ use crate::aes_gcm::GcmKey;
 use core::fmt;
 
 /// An AEAD key for sealing that is bound to a nonce sequence: each call uses the next nonce. It cannot be cloned.
+///
+/// Programs name it by an alias over a cipher, such as `aead_ciphers_wide::aead::SealingKey`, which has an example.
 pub struct SealingKey<K: GcmKey, N> {
     key: LessSafeKey<K>,
     nonce_sequence: N,
@@ -57,6 +59,8 @@ impl<K: GcmKey, N: NonceSequence> SealingKey<K, N> {
     /// ensures call { SealingCall N.spent N.is_closed N.origin N.gives N.refuses (B.may_refuse in_out.old) (B.may_grant in_out.old) self.old self.new (aad_bytes aad.entry) (B.bytes in_out.old) (B.bytes in_out.new) result }
     /// ```
     ///
+    /// Definitions: [`UnderNext`](crate::specs::nonce_sequence#UnderNext), [`gcm_sealed`](crate::specs::gcm#gcm_sealed), [`aes`](aead_ciphers_base::specs::aes#aes), [`aad_bytes`](aead_ciphers_base::specs::values#aad_bytes), [`tag_len`](crate::specs::gcm#tag_len), [`SealingCall`](crate::specs::bound_calls#SealingCall).
+    ///
     /// </details>
     pub fn seal_in_place_append_tag<B: InOut>(
         &mut self,
@@ -92,6 +96,8 @@ impl<K: GcmKey, N: NonceSequence> SealingKey<K, N> {
     /// ensures refused { OnErr result (in_out.new ≡ in_out.old) }
     /// ensures call { SealingCall N.spent N.is_closed N.origin N.gives N.refuses ⊥ ⊤ self.old self.new (aad_bytes aad.entry) in_out.old (with_tag in_out.new result) result }
     /// ```
+    ///
+    /// Definitions: [`UnderNext`](crate::specs::nonce_sequence#UnderNext), [`gcm_encrypted`](crate::specs::gcm#gcm_encrypted), [`aes`](aead_ciphers_base::specs::aes#aes), [`gcm_tag`](crate::specs::gcm#gcm_tag), [`aad_bytes`](aead_ciphers_base::specs::values#aad_bytes), [`SealingCall`](crate::specs::bound_calls#SealingCall), [`with_tag`](crate::specs::steps#with_tag).
     ///
     /// </details>
     pub fn seal_in_place_separate_tag(

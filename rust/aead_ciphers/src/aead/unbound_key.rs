@@ -7,6 +7,18 @@ use core::fmt;
 
 /// An AEAD key without a role or a nonce sequence. It holds the key bytes, which are expanded when it becomes a
 /// `LessSafeKey`, a `SealingKey` or an `OpeningKey`.
+///
+/// # Examples
+///
+/// ```
+/// use deerlapse::aead::{AES_128_GCM, AES_256_GCM, UnboundKey, Unspecified};
+///
+/// let bytes = [7; 32]; // not a real key
+/// let key = UnboundKey::new(&AES_256_GCM, &bytes)?;
+/// assert_eq!(key.algorithm(), &AES_256_GCM);
+/// assert!(UnboundKey::new(&AES_128_GCM, &bytes).is_err());
+/// # Ok::<(), Unspecified>(())
+/// ```
 pub struct UnboundKey {
     algorithm: &'static Algorithm,
     bytes: UnboundBytes,
@@ -42,6 +54,8 @@ impl UnboundKey {
     /// ensures accepted { IsOk result ↔ (length key_bytes.now ≡ key_len algorithm.now) }
     /// ensures made { IfOk result (λ key. key ≡ record { algorithm = algorithm.now; bytes = key_bytes.now }) }
     /// ```
+    ///
+    /// Definitions: [`key_len`](crate::specs::algorithm#key_len).
     ///
     /// </details>
     pub fn new(algorithm: &'static Algorithm, key_bytes: &[u8]) -> Result<Self, Unspecified> {

@@ -6,6 +6,23 @@ use aead_ciphers_base::bb;
 /// A sequence of 12-byte nonces: an IV of 12 bytes, XORed with a number, which counts up. The number is in 8 big-endian
 /// bytes after four zero bytes (RFC 8446 section 5.3: the sequence number of a record; RFC 9001 section 5.3: the number
 /// of a packet). It cannot be cloned. ring has no such type.
+///
+/// # Examples
+///
+/// The nonce of RFC 9001 appendix A.5:
+///
+/// ```
+/// use deerlapse::aead::{NonceSequence, Unspecified, XoredSequence, nonce_of};
+///
+/// let iv = [0xe0, 0x45, 0x9b, 0x34, 0x74, 0xbd, 0xd0, 0xe4, 0x4a, 0x41, 0xc1, 0x44];
+/// let nonce = [0xe0, 0x45, 0x9b, 0x34, 0x74, 0xbd, 0xd0, 0xe4, 0x6d, 0x41, 0x7e, 0xb0];
+///
+/// let mut sequence = XoredSequence::new(iv, 654360564, 654360565)?;
+/// assert_eq!(sequence.advance()?.as_ref(), &nonce);
+/// assert!(sequence.advance().is_err());
+/// assert_eq!(nonce_of(&iv, 654360564).as_ref(), &nonce);
+/// # Ok::<(), Unspecified>(())
+/// ```
 pub struct XoredSequence {
     iv: [u8; NONCE_LEN],
     first: u64,
@@ -50,6 +67,8 @@ impl XoredSequence {
 /// ```text
 /// ensures { result ≡ xored_nonce iv.now number }
 /// ```
+///
+/// Definitions: [`xored_nonce`](crate::specs::counting#xored_nonce).
 ///
 /// </details>
 pub fn nonce_of(iv: &[u8; NONCE_LEN], number: u64) -> Nonce {

@@ -10,6 +10,23 @@ use core::ops::RangeFrom;
 ///
 /// It is plain data without an invariant, so that it can be expanded in place. Sealing and opening require it to be as
 /// `expand` left it.
+///
+/// <details><summary>Ghost items</summary>
+///
+/// ```text
+/// // The bytes of the key.
+/// ghost bytes_of: { Self → List ℕ };
+/// // The value is as `expand` left it.
+/// ghost is_expanded: { Self → Type 0 };
+/// // The value before it is expanded.
+/// ghost zero_key: { Self };
+/// // A clone is the same value.
+/// ghost clones: { (key clone : Self) → Self.is_clone key clone → clone ≡ key };
+/// // Cloning never fails.
+/// ghost always_clones: { (key : Self) → Self.is_infallible key };
+/// ```
+///
+/// </details>
 pub trait GcmKey: Clone {
     /// Returns a value that is not a key until `expand` is called.
     ///
@@ -36,6 +53,8 @@ pub trait GcmKey: Clone {
     /// ensures worked { Adds work.old work.new 1 0 }
     /// ```
     ///
+    /// Definitions: [`CanAdd`](aead_ciphers_base::specs::work#CanAdd), [`key_bytes`](aead_ciphers_base::specs::key_bytes#key_bytes), [`Adds`](aead_ciphers_base::specs::work#Adds).
+    ///
     /// </details>
     fn expand(&mut self, bytes: KeyBytes<'_>, work: &mut Work);
 
@@ -57,6 +76,8 @@ pub trait GcmKey: Clone {
     /// ensures refused { OnErr result (in_out.new ≡ in_out.old) }
     /// ensures worked { SealWork (length (aad_bytes aad.entry)) (length in_out.old) result work.old work.new }
     /// ```
+    ///
+    /// Definitions: [`CanSeal`](crate::specs::gcm#CanSeal), [`aad_bytes`](aead_ciphers_base::specs::values#aad_bytes), [`Fits`](crate::specs::gcm#Fits), [`gcm_encrypted`](crate::specs::gcm#gcm_encrypted), [`aes_cipher`](aead_ciphers_base::specs::aes#aes), [`gcm_tag`](crate::specs::gcm#gcm_tag), [`SealWork`](crate::specs::gcm#SealWork).
     ///
     /// </details>
     fn seal(
@@ -89,6 +110,8 @@ pub trait GcmKey: Clone {
     /// ensures worked { OpenWork (length (aad_bytes aad.entry)) src.start (length in_out.old) result work.old work.new }
     /// ```
     ///
+    /// Definitions: [`CanOpen`](crate::specs::gcm#CanOpen), [`aad_bytes`](aead_ciphers_base::specs::values#aad_bytes), [`Opened`](crate::specs::gcm#Opened), [`aes_cipher`](aead_ciphers_base::specs::aes#aes), [`OpenWork`](crate::specs::gcm#OpenWork).
+    ///
     /// </details>
     fn open(
         &self,
@@ -119,6 +142,8 @@ pub trait GcmKey: Clone {
     /// ensures refused { OnErr result (out.new ≡ out.old) }
     /// ensures worked { OpenWork (length (aad_bytes aad.entry)) 0 (length ciphertext.now) result work.old work.new }
     /// ```
+    ///
+    /// Definitions: [`CanSeal`](crate::specs::gcm#CanSeal), [`aad_bytes`](aead_ciphers_base::specs::values#aad_bytes), [`Fits`](crate::specs::gcm#Fits), [`gcm_tag`](crate::specs::gcm#gcm_tag), [`aes_cipher`](aead_ciphers_base::specs::aes#aes), [`gcm_decrypted`](crate::specs::gcm#gcm_decrypted), [`OpenWork`](crate::specs::gcm#OpenWork).
     ///
     /// </details>
     fn open_to(

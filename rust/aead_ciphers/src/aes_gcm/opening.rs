@@ -26,6 +26,8 @@ use core::ops::RangeFrom;
 /// ensures worked { OpenWork (length (aad_bytes aad.entry)) src.start (length in_out.old) result work.old work.new }
 /// ```
 ///
+/// Definitions: [`CanOpen`](crate::specs::gcm#CanOpen), [`aad_bytes`](aead_ciphers_base::specs::values#aad_bytes), [`zero_block`](aead_ciphers_base::specs::bytes#zero_block), [`Opened`](crate::specs::gcm#Opened), [`OpenWork`](crate::specs::gcm#OpenWork).
+///
 /// </details>
 #[inline(always)]
 pub fn open_with<A: EncryptCtr32, G: UpdateBlocks>(
@@ -63,6 +65,8 @@ pub fn open_with<A: EncryptCtr32, G: UpdateBlocks>(
 /// ensures worked { OpenWork (length (aad_bytes aad.entry)) start (length in_out.old) result work.old work.new }
 /// ```
 ///
+/// Definitions: [`Fits`](crate::specs::gcm#Fits), [`aad_bytes`](aead_ciphers_base::specs::values#aad_bytes), [`CanOpen`](crate::specs::gcm#CanOpen), [`zero_block`](aead_ciphers_base::specs::bytes#zero_block), [`Opened`](crate::specs::gcm#Opened), [`OpenWork`](crate::specs::gcm#OpenWork).
+///
 /// </details>
 #[inline(always)]
 pub fn open_fitting_with<A: EncryptCtr32, G: UpdateBlocks>(
@@ -93,6 +97,8 @@ pub fn open_fitting_with<A: EncryptCtr32, G: UpdateBlocks>(
 /// ensures refused { OnErr result (out.new ≡ out.old) }
 /// ensures worked { OpenWork (length (aad_bytes aad.entry)) 0 (length ciphertext.now) result work.old work.new }
 /// ```
+///
+/// Definitions: [`CanSeal`](crate::specs::gcm#CanSeal), [`aad_bytes`](aead_ciphers_base::specs::values#aad_bytes), [`zero_block`](aead_ciphers_base::specs::bytes#zero_block), [`Fits`](crate::specs::gcm#Fits), [`gcm_tag`](crate::specs::gcm#gcm_tag), [`gcm_decrypted`](crate::specs::gcm#gcm_decrypted), [`OpenWork`](crate::specs::gcm#OpenWork).
 ///
 /// </details>
 #[inline(always)]

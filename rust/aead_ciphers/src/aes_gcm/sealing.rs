@@ -27,6 +27,8 @@ const SHORT_LEN: usize = BATCH_LEN - BLOCK_LEN;
 /// ensures worked { SealWork (length (aad_bytes aad.entry)) (length in_out.old) result work.old work.new }
 /// ```
 ///
+/// Definitions: [`CanSeal`](crate::specs::gcm#CanSeal), [`aad_bytes`](aead_ciphers_base::specs::values#aad_bytes), [`zero_block`](aead_ciphers_base::specs::bytes#zero_block), [`Fits`](crate::specs::gcm#Fits), [`gcm_encrypted`](crate::specs::gcm#gcm_encrypted), [`gcm_tag`](crate::specs::gcm#gcm_tag), [`SealWork`](crate::specs::gcm#SealWork).
+///
 /// </details>
 #[inline(always)]
 pub fn seal_with<A: EncryptCtr32, G: UpdateBlocks>(

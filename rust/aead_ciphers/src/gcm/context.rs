@@ -26,6 +26,8 @@ impl<'key, K: UpdateBlock> Context<'key, K> {
     /// ensures worked { Adds work.old work.new 0 1 }
     /// ```
     ///
+    /// Definitions: [`CanAdd`](aead_ciphers_base::specs::work#CanAdd), [`IsHashOf`](crate::specs::hash_of#IsHashOf), [`Adds`](aead_ciphers_base::specs::work#Adds).
+    ///
     /// </details>
     #[inline(always)]
     pub fn update_block(&mut self, block: Block, work: &mut Work) {
@@ -43,6 +45,8 @@ impl<'key, K: UpdateBlock> Context<'key, K> {
     /// ensures hashed { (xi : List ℕ) × F.post f xi result × ((done : List (List ℕ)) → IsHashOf self.entry.hash_subkey done self.entry.xi → IsHashOf self.entry.hash_subkey (done ++ length_block self.entry.aad_len self.entry.in_out_len ∷ []) xi) }
     /// ensures worked { Adds work.old work.new 0 1 }
     /// ```
+    ///
+    /// Definitions: [`CanAdd`](aead_ciphers_base::specs::work#CanAdd), [`IsHashOf`](crate::specs::hash_of#IsHashOf), [`length_block`](crate::specs::gcm#length_block), [`Adds`](aead_ciphers_base::specs::work#Adds).
     ///
     /// </details>
     #[inline(always)]
@@ -80,6 +84,8 @@ impl<'key, K: UpdateBlocks> Context<'key, K> {
     /// ensures worked { OnOk result (Adds work.old work.new 0 ((length (aad_bytes aad.entry) + 15) / 16)) }
     /// ensures idle { OnErr result (work.new ≡ work.old) }
     /// ```
+    ///
+    /// Definitions: [`Fits`](crate::specs::gcm#Fits), [`aad_bytes`](aead_ciphers_base::specs::values#aad_bytes), [`CanAdd`](aead_ciphers_base::specs::work#CanAdd), [`IsHashOf`](crate::specs::hash_of#IsHashOf), [`padded_blocks`](crate::specs::gcm#padded_blocks), [`Adds`](aead_ciphers_base::specs::work#Adds).
     ///
     /// </details>
     #[inline(always)]
@@ -125,6 +131,8 @@ impl<'key, K: UpdateBlocks> Context<'key, K> {
     /// ensures kept { self.new ≡ record self.old { xi = self.new.xi } }
     /// ensures worked { Adds work.old work.new 0 (length input.entry.items.now / 16) }
     /// ```
+    ///
+    /// Definitions: [`CanAdd`](aead_ciphers_base::specs::work#CanAdd), [`IsHashOf`](crate::specs::hash_of#IsHashOf), [`blocks`](aead_ciphers_base::specs::blocks#blocks), [`Adds`](aead_ciphers_base::specs::work#Adds).
     ///
     /// </details>
     #[inline(always)]

@@ -15,6 +15,8 @@ pub const MAX_IN_OUT_LEN: usize = (1 << 36) - 32;
 /// ensures { IsTrue result ↔ Fits aad_len in_out_len }
 /// ```
 ///
+/// Definitions: [`Fits`](crate::specs::gcm#Fits).
+///
 /// </details>
 #[inline(always)]
 pub fn fits(aad_len: usize, in_out_len: usize) -> bool {

@@ -14,6 +14,8 @@ use aead_ciphers_base::polyfill::slice::as_chunks;
 /// ensures worked { Adds work.old work.new 0 ((length input.now + 15) / 16) }
 /// ```
 ///
+/// Definitions: [`CanAdd`](aead_ciphers_base::specs::work#CanAdd), [`IsHashOf`](crate::specs::hash_of#IsHashOf), [`padded_blocks`](crate::specs::gcm#padded_blocks), [`Adds`](aead_ciphers_base::specs::work#Adds).
+///
 /// </details>
 #[inline(always)]
 pub fn absorb<G: UpdateBlocks>(gcm: &G, xi: &mut Xi, input: &[u8], work: &mut Work) {
@@ -40,6 +42,8 @@ fn padded(bytes: &[u8]) -> Block {
 /// requires { Fits aad_len in_out_len }
 /// ensures { result ≡ length_block aad_len in_out_len }
 /// ```
+///
+/// Definitions: [`Fits`](crate::specs::gcm#Fits), [`length_block`](crate::specs::gcm#length_block).
 ///
 /// </details>
 #[inline(always)]

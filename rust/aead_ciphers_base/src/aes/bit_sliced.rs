@@ -7,6 +7,15 @@ use super::tower::sub_bytes;
 use super::{Block, KeyRef};
 
 /// A round key that eight planes hold, once in each of their blocks.
+///
+/// <details><summary>Ghost items</summary>
+///
+/// ```text
+/// // The numbers of the planes.
+/// ghost held: { Self → List ℕ };
+/// ```
+///
+/// </details>
 pub trait RoundKeyPlanes<P: Plane> {
     /// Returns the planes.
     ///
@@ -38,6 +47,8 @@ impl RoundKeyPlanes<u64> for [u64; 8] {
 /// ensures { (k : ℕ) → k < P.width / 16 → (w : List (List ℕ)) → ((j : ℕ) → j < last → HoldsRound P.place k w j (slice_index_or (map K.held round_keys.now) j [])) → block_at P.place (map P.number result) k ≡ rounds w (block_at P.place (map P.number planes) k) (last - 1) }
 /// ```
 ///
+/// Definitions: [`HoldsRound`](crate::specs::planes#HoldsRound), [`block_at`](crate::specs::planes#block_at), [`rounds`](crate::specs::aes#rounds).
+///
 /// </details>
 #[inline(always)]
 pub fn first_rounds<P: Plane, K: RoundKeyPlanes<P>>(
@@ -63,6 +74,8 @@ pub fn first_rounds<P: Plane, K: RoundKeyPlanes<P>>(
 /// ensures { (k : ℕ) → k < P.width / 16 → (w : List (List ℕ)) (j : ℕ) → HoldsRound P.place k w j (K.held round_key.now) → block_at P.place (map P.number result) k ≡ add_round_key w j (shift_rows (sub_bytes (block_at P.place (map P.number planes) k))) }
 /// ```
 ///
+/// Definitions: [`HoldsRound`](crate::specs::planes#HoldsRound), [`block_at`](crate::specs::planes#block_at), [`add_round_key`](crate::specs::aes#add_round_key), [`shift_rows`](crate::specs::aes#shift_rows), [`sub_bytes`](crate::specs::aes#sub_bytes).
+///
 /// </details>
 #[inline(always)]
 pub fn last_round<P: Plane, K: RoundKeyPlanes<P>>(planes: [P; 8], round_key: &K) -> [P; 8] {
@@ -78,6 +91,8 @@ impl<'k> KeyRef<'k> {
     /// ```text
     /// ensures { (k : ℕ) → k < 4 → slice_index_or result k [] ≡ aes self.now (slice_index_or blocks k []) }
     /// ```
+    ///
+    /// Definitions: [`aes`](crate::specs::aes#aes).
     ///
     /// </details>
     #[inline(always)]

@@ -17,6 +17,8 @@ impl Counter {
     /// ensures { IsCounter result nonce 1 }
     /// ```
     ///
+    /// Definitions: [`IsCounter`](crate::specs::counter_mode#IsCounter).
+    ///
     /// </details>
     #[inline(always)]
     pub fn one(nonce: Nonce) -> Self {
@@ -35,6 +37,8 @@ impl Counter {
     /// ensures counter { (nonce : List ℕ) (k : ℕ) → IsCounter self.old nonce k → IsCounter self.new nonce (k + 1) }
     /// ```
     ///
+    /// Definitions: [`IsCounter`](crate::specs::counter_mode#IsCounter).
+    ///
     /// </details>
     #[inline(always)]
     pub fn increment(&mut self) -> Iv {
@@ -52,6 +56,8 @@ impl Counter {
     /// ensures { (nonce : List ℕ) (k : ℕ) → IsCounter self.old nonce k → IsCounter self.new nonce (k + increment_by) }
     /// ```
     ///
+    /// Definitions: [`IsCounter`](crate::specs::counter_mode#IsCounter).
+    ///
     /// </details>
     #[inline(always)]
     pub fn increment_by_less_safe(&mut self, increment_by: u32) {
@@ -65,6 +71,8 @@ impl Counter {
     /// ```text
     /// ensures { (nonce : List ℕ) (k : ℕ) → IsCounter self.now nonce k → IsCounter result nonce (k + more) }
     /// ```
+    ///
+    /// Definitions: [`IsCounter`](crate::specs::counter_mode#IsCounter).
     ///
     /// </details>
     #[inline(always)]
@@ -91,6 +99,8 @@ impl Counter {
     /// ensures bytes { result.now ≡ self.now }
     /// ensures counter { (nonce : List ℕ) × (k : ℕ) × IsCounter self.now nonce k }
     /// ```
+    ///
+    /// Definitions: [`IsCounter`](crate::specs::counter_mode#IsCounter).
     ///
     /// </details>
     #[inline(always)]

@@ -56,6 +56,8 @@ fn next_word(words: &[[u8; 4]], i: usize, nk: usize) -> [u8; 4] {
 /// ensures { let nk = length key.now / 4 in take (4 * (nk + 7)) result ≡ key_words nk key.now (4 * (nk + 7) - nk) }
 /// ```
 ///
+/// Definitions: [`key_words`](crate::specs::aes#key_words).
+///
 /// </details>
 #[inline(always)]
 pub fn expand(key: &[u8]) -> [[u8; 4]; 60] {
@@ -88,6 +90,8 @@ fn pack_round_key(words: &[[u8; 4]], round: usize) -> Planes {
 /// requires { length words.now ≤ 60 }
 /// ensures { HoldsWords planes.new words.now (length words.now / 4) }
 /// ```
+///
+/// Definitions: [`HoldsWords`](crate::specs::key_schedule#HoldsWords).
 ///
 /// </details>
 #[inline(always)]

@@ -74,6 +74,8 @@ fn block_of(low: u64, high: u64) -> Block {
 /// ensures { (p : ℕ) → p < 64 → plane_byte result p ≡ slice_index (slice_index_or blocks (p / 16) []) (p % 16) }
 /// ```
 ///
+/// Definitions: [`plane_byte`](crate::specs::planes#plane_byte).
+///
 /// </details>
 #[inline(always)]
 pub fn pack(blocks: [Block; 4]) -> Planes {
@@ -92,6 +94,8 @@ pub fn pack(blocks: [Block; 4]) -> Planes {
 /// ```text
 /// ensures { (k : ℕ) → k < 4 → slice_index_or result k [] ≡ plane_block planes k }
 /// ```
+///
+/// Definitions: [`plane_block`](crate::specs::planes#plane_block).
 ///
 /// </details>
 #[inline(always)]
@@ -116,6 +120,8 @@ const EIGHTHS: u64 = 0x0101_0101_0101_0101;
 /// ensures { (j : ℕ) → j < 8 → plane_byte result (8 * j) ≡ slice_index (to_le_bytes w64 word) j }
 /// ```
 ///
+/// Definitions: [`plane_byte`](crate::specs::planes#plane_byte).
+///
 /// </details>
 #[inline(always)]
 pub fn spread(word: u64) -> Planes {
@@ -133,6 +139,8 @@ pub fn spread(word: u64) -> Planes {
 /// ```text
 /// ensures { (j : ℕ) → j < 8 → slice_index (to_le_bytes w64 result) j ≡ plane_byte planes (8 * j) }
 /// ```
+///
+/// Definitions: [`plane_byte`](crate::specs::planes#plane_byte).
 ///
 /// </details>
 #[inline(always)]

@@ -3,6 +3,26 @@
 use core::ops::{BitAnd, BitXor};
 
 /// A word that has one bit of each byte of some blocks.
+///
+/// <details><summary>Ghost items</summary>
+///
+/// ```text
+/// // The number with these bits.
+/// ghost number: { Self → ℕ };
+/// // The number of bits.
+/// ghost width: { ℕ };
+/// // The bit of byte `j` of block `k` is at place `place k j`.
+/// ghost place: { ℕ → ℕ → ℕ };
+/// // The places of the blocks are within the word.
+/// ghost place_within: { (k j : ℕ) → k < width / 16 → j < 16 → place k j < width };
+/// // Any two words can be added and multiplied, bit by bit.
+/// ghost can_xor: { (a b : Self) → Self.can_bitxor a b };
+/// ghost can_and: { (a b : Self) → Self.can_bitand a b };
+/// ghost xor_is: { (a b c : Self) → Self.bitxor_gives a b c → number c ≡ bit_xor (number a) (number b) };
+/// ghost and_is: { (a b c : Self) → Self.bitand_gives a b c → number c ≡ bit_and (number a) (number b) };
+/// ```
+///
+/// </details>
 pub trait Plane: Copy + BitXor<Self, Output = Self> + BitAnd<Self, Output = Self> {
     /// Returns the word all of whose bits are one.
     ///
@@ -23,6 +43,8 @@ pub trait Plane: Copy + BitXor<Self, Output = Self> + BitAnd<Self, Output = Self
     /// ensures { Moves place (width / 16) shifted_from (number self) (number result) }
     /// ```
     ///
+    /// Definitions: [`Moves`](crate::specs::planes#Moves), [`shifted_from`](crate::specs::planes#shifted_from).
+    ///
     /// </details>
     fn rows_shifted(self) -> Self;
 
@@ -34,6 +56,8 @@ pub trait Plane: Copy + BitXor<Self, Output = Self> + BitAnd<Self, Output = Self
     /// ensures { Moves place (width / 16) (below 1) (number self) (number result) }
     /// ```
     ///
+    /// Definitions: [`Moves`](crate::specs::planes#Moves), [`below`](crate::specs::planes#below).
+    ///
     /// </details>
     fn one_below(self) -> Self;
 
@@ -44,6 +68,8 @@ pub trait Plane: Copy + BitXor<Self, Output = Self> + BitAnd<Self, Output = Self
     /// ```text
     /// ensures { Moves place (width / 16) (below 2) (number self) (number result) }
     /// ```
+    ///
+    /// Definitions: [`Moves`](crate::specs::planes#Moves), [`below`](crate::specs::planes#below).
     ///
     /// </details>
     fn two_below(self) -> Self;

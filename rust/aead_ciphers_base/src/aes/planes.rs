@@ -14,6 +14,8 @@ pub type Planes = [u64; 8];
 /// ensures { (p : ℕ) → p < 64 → plane_byte planes.new p ≡ sbox (plane_byte planes.old p) }
 /// ```
 ///
+/// Definitions: [`plane_byte`](crate::specs::planes#plane_byte), [`sbox`](crate::specs::byte_field#sbox).
+///
 /// </details>
 #[inline(always)]
 pub fn sub_planes(planes: &mut [u64; 8]) {

@@ -44,6 +44,8 @@ fn add_planes<P: Plane>(a: [P; 8], b: [P; 8]) -> [P; 8] {
 /// ensures { (k : ℕ) → k < P.width / 16 → block_at P.place (map P.number result) k ≡ shift_rows (block_at P.place (map P.number a) k) }
 /// ```
 ///
+/// Definitions: [`block_at`](crate::specs::planes#block_at), [`shift_rows`](crate::specs::aes#shift_rows).
+///
 /// </details>
 #[inline(always)]
 pub fn shift_rows<P: Plane>(a: [P; 8]) -> [P; 8] {
@@ -62,6 +64,8 @@ pub fn shift_rows<P: Plane>(a: [P; 8]) -> [P; 8] {
 /// ensures { (k : ℕ) → k < P.width / 16 → block_at P.place (map P.number result) k ≡ mix_columns (block_at P.place (map P.number a) k) }
 /// ```
 ///
+/// Definitions: [`block_at`](crate::specs::planes#block_at), [`mix_columns`](crate::specs::aes#mix_columns).
+///
 /// </details>
 #[inline(always)]
 pub fn mix_columns<P: Plane>(a: [P; 8]) -> [P; 8] {
@@ -78,6 +82,8 @@ pub fn mix_columns<P: Plane>(a: [P; 8]) -> [P; 8] {
 /// ```text
 /// ensures { (k : ℕ) → k < P.width / 16 → (w : List (List ℕ)) (j : ℕ) → HoldsRound P.place k w j (map P.number round_key) → block_at P.place (map P.number result) k ≡ add_round_key w j (block_at P.place (map P.number a) k) }
 /// ```
+///
+/// Definitions: [`HoldsRound`](crate::specs::planes#HoldsRound), [`block_at`](crate::specs::planes#block_at), [`add_round_key`](crate::specs::aes#add_round_key).
 ///
 /// </details>
 #[inline(always)]

@@ -116,6 +116,8 @@ fn map_affine<W: Plane>(a: [W; 8]) -> [W; 8] {
 /// ensures { (p : ℕ) → p < W.width → plane_byte (map W.number result) p ≡ sbox (plane_byte (map W.number planes) p) }
 /// ```
 ///
+/// Definitions: [`plane_byte`](crate::specs::planes#plane_byte), [`sbox`](crate::specs::byte_field#sbox).
+///
 /// </details>
 #[inline(always)]
 pub fn sub_bytes<W: Plane>(planes: [W; 8]) -> [W; 8] {

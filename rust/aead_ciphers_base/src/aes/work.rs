@@ -4,6 +4,23 @@
 /// section 6.3).
 ///
 /// A call that counts requires that the sums fit in 64 bits. `has_room` suffices for one seal or open.
+///
+/// # Examples
+///
+/// ```
+/// use deerlapse::aead::{Aad, Nonce, Unspecified};
+/// use deerlapse::aes_gcm::{ExpandedKey, GcmKey, KeyBytes, Work};
+///
+/// let mut key = ExpandedKey::zeros();
+/// key.expand(KeyBytes::AES_128(&[7; 16]), &mut Work::new()); // not a real key
+///
+/// let mut work = Work::new();
+/// let nonce = Nonce::assume_unique_for_key([1; 12]);
+/// let _tag = key.seal(nonce, Aad::empty(), &mut [2; 32], &mut work)?;
+/// assert_eq!(work.blocks(), 3); // two of the message, and one of the tag
+/// assert_eq!(work.products(), 3); // two of the ciphertext, and one of the lengths
+/// # Ok::<(), Unspecified>(())
+/// ```
 pub struct Work {
     blocks: u64,
     products: u64,
@@ -63,6 +80,8 @@ impl Work {
     /// ensures { IsTrue result ↔ HasRoom self.now }
     /// ```
     ///
+    /// Definitions: [`HasRoom`](crate::specs::work#HasRoom).
+    ///
     /// </details>
     #[inline(always)]
     pub fn has_room(&self) -> bool {
@@ -77,6 +96,8 @@ impl Work {
     /// requires { CanAdd self.old 0 1 }
     /// ensures { Adds self.old self.new 0 1 }
     /// ```
+    ///
+    /// Definitions: [`CanAdd`](crate::specs::work#CanAdd), [`Adds`](crate::specs::work#Adds).
     ///
     /// </details>
     #[inline(always)]
@@ -93,6 +114,8 @@ impl Work {
     /// ensures { Adds self.old self.new 1 0 }
     /// ```
     ///
+    /// Definitions: [`CanAdd`](crate::specs::work#CanAdd), [`Adds`](crate::specs::work#Adds).
+    ///
     /// </details>
     #[inline(always)]
     pub fn add_block(&mut self) {
@@ -107,6 +130,8 @@ impl Work {
     /// requires { CanAdd self.old count 0 }
     /// ensures { Adds self.old self.new count 0 }
     /// ```
+    ///
+    /// Definitions: [`CanAdd`](crate::specs::work#CanAdd), [`Adds`](crate::specs::work#Adds).
     ///
     /// </details>
     #[inline(always)]

@@ -26,6 +26,8 @@ impl<'o, T, const N: usize> Array<'o, T, N> {
     /// ensures refused { IfErr result (λ e. e ≡ N) }
     /// ```
     ///
+    /// Definitions: [`KeptIfErr`](crate::specs::overlapping#KeptIfErr), [`input_len`](crate::specs::overlapping#input_len).
+    ///
     /// </details>
     #[inline(always)]
     pub fn new(in_out: Overlapping<'o, T>) -> Result<Self, LenMismatchError> {
@@ -44,6 +46,8 @@ impl<'o, T, const N: usize> Array<'o, T, N> {
     /// ensures { result.now ≡ input_of self.now.in_out }
     /// ```
     ///
+    /// Definitions: [`input_of`](crate::specs::overlapping#input_of).
+    ///
     /// </details>
     #[inline(always)]
     pub fn input(&self) -> &[T; N] {
@@ -61,6 +65,8 @@ impl<'o, T, const N: usize> Array<'o, T, N> {
     /// ensures* writes_back { sem 𝓛 (LendsOutput T.row self.entry.in_out.in_out result N) }
     /// ensures items { result.now ≡ take N self.entry.in_out.in_out.now }
     /// ```
+    ///
+    /// Definitions: [`LendsOutput`](crate::specs::overlapping#LendsOutput).
     ///
     /// </details>
     #[inline(always)]

@@ -5,6 +5,19 @@ use crate::error::IndexError;
 use core::ops::RangeFrom;
 
 /// A slice that is read from `start` on and written from the front on.
+///
+/// # Examples
+///
+/// ```
+/// use aead_ciphers_base::error::IndexError;
+/// use aead_ciphers_base::overlapping::Overlapping;
+///
+/// let mut items = [1, 2, 3, 4, 5, 6];
+/// let front = Overlapping::new(&mut items, 2..)?.copy_within();
+/// assert_eq!(front, [3, 4, 5, 6]);
+/// assert_eq!(items, [3, 4, 5, 6, 5, 6]);
+/// # Ok::<(), IndexError>(())
+/// ```
 pub struct Overlapping<'o, T> {
     /// The whole slice.
     pub in_out: &'o mut [T],
@@ -36,6 +49,8 @@ impl<'o, T> Overlapping<'o, T> {
     /// ensures start { IfOk result (λ o. o.start ≡ src.start) }
     /// ensures refused { IfErr result (λ e. e ≡ src.start) }
     /// ```
+    ///
+    /// Definitions: [`KeptIfErr`](crate::specs::overlapping#KeptIfErr).
     ///
     /// </details>
     #[inline(always)]
@@ -73,6 +88,8 @@ impl<'o, T> Overlapping<'o, T> {
     /// ensures { result ≡ input_len self.now }
     /// ```
     ///
+    /// Definitions: [`input_len`](crate::specs::overlapping#input_len).
+    ///
     /// </details>
     #[inline(always)]
     pub fn len(&self) -> usize {
@@ -86,6 +103,8 @@ impl<'o, T> Overlapping<'o, T> {
     /// ```text
     /// ensures { result.now ≡ input_of self.now }
     /// ```
+    ///
+    /// Definitions: [`input_of`](crate::specs::overlapping#input_of).
     ///
     /// </details>
     #[inline(always)]
@@ -119,6 +138,8 @@ impl<'o, T> Overlapping<'o, T> {
     /// ensures items { result.now ≡ take (input_len self.entry) self.entry.in_out.now }
     /// ```
     ///
+    /// Definitions: [`LendsOutput`](crate::specs::overlapping#LendsOutput), [`input_len`](crate::specs::overlapping#input_len).
+    ///
     /// </details>
     #[inline(always)]
     pub fn into_unwritten_output(self) -> &'o mut [T] {
@@ -147,6 +168,8 @@ impl<'o, T> Overlapping<'o, T> {
     /// ensures* writes_back { sem 𝓛 (LendsOutput T.row self.entry.in_out result (input_len self.entry)) }
     /// ensures items { result.now ≡ input_of self.entry }
     /// ```
+    ///
+    /// Definitions: [`LendsOutput`](crate::specs::overlapping#LendsOutput), [`input_len`](crate::specs::overlapping#input_len), [`input_of`](crate::specs::overlapping#input_of).
     ///
     /// </details>
     #[inline(always)]
@@ -188,6 +211,8 @@ impl<'o, T> Overlapping<'o, T> {
     /// ensures start { IfOk result (λ o. o.start ≡ self.entry.start) }
     /// ensures refused { IfErr result (λ e. e ≡ C.chunk_len) }
     /// ```
+    ///
+    /// Definitions: [`input_len`](crate::specs::overlapping#input_len), [`TakesChunk`](crate::specs::overlapping#TakesChunk), [`input_of`](crate::specs::overlapping#input_of), [`LendsRest`](crate::specs::overlapping#LendsRest).
     ///
     /// </details>
     #[inline(always)]

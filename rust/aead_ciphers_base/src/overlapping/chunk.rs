@@ -4,6 +4,15 @@
 ///
 /// Calls that take a closure over chunks are generic over this trait, since a bound such as
 /// `FnOnce(&[T; N]) -> [T; N]` may not name a const parameter.
+///
+/// <details><summary>Ghost items</summary>
+///
+/// ```text
+/// ghost chunk_items: { Self → List T };
+/// ghost chunk_len: { ℕ };
+/// ```
+///
+/// </details>
 pub trait Chunk<T>: Sized {
     /// Returns the number of items in a chunk.
     ///

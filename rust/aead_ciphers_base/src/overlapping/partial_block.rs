@@ -33,6 +33,8 @@ impl<'i, T, const BLOCK_LEN: usize> PartialBlock<'i, T, BLOCK_LEN> {
     /// ensures refused { IfErr result (λ e. e ≡ input_len in_out.entry) }
     /// ```
     ///
+    /// Definitions: [`KeptIfErr`](crate::specs::overlapping#KeptIfErr), [`input_len`](crate::specs::overlapping#input_len).
+    ///
     /// </details>
     #[inline(always)]
     pub fn new(in_out: Overlapping<'i, T>) -> Result<Self, InputTooLongError> {

@@ -7,6 +7,21 @@ use aead_ciphers_base::chacha;
 use aead_ciphers_base::error::Unspecified;
 
 /// A header protection key with its algorithm.
+///
+/// # Examples
+///
+/// The mask of RFC 9001 appendix A.2:
+///
+/// ```
+/// use deerlapse::aead::Unspecified;
+/// use deerlapse::aead::quic::{AES_128, HeaderProtectionKey};
+///
+/// let bytes = 0x9f50449e04a0e810283a1e9933adedd2_u128.to_be_bytes();
+/// let sample = 0xd1b1c98dd7689fb8ec11d242b123dc9b_u128.to_be_bytes();
+/// let key = HeaderProtectionKey::new(&AES_128, &bytes)?;
+/// assert_eq!(key.new_mask(&sample)?, [0x43, 0x7b, 0x9a, 0xec, 0x36]);
+/// # Ok::<(), Unspecified>(())
+/// ```
 pub struct HeaderProtectionKey {
     cipher: Cipher,
 }
@@ -31,6 +46,8 @@ impl HeaderProtectionKey {
     /// ensures algorithm { IfOk result (λ key. key.algorithm ≡ algorithm.now) }
     /// ensures bytes { IfOk result (λ key. key.bytes ≡ key_bytes.now) }
     /// ```
+    ///
+    /// Definitions: [`key_len`](aead_ciphers::specs::header_protection#key_len).
     ///
     /// </details>
     #[inline(always)]
@@ -59,6 +76,8 @@ impl HeaderProtectionKey {
     /// ensures accepted { IsOk result ↔ (length sample.now ≡ 16) }
     /// ensures mask { IfOk result (λ mask. mask ≡ header_protection self.now.algorithm self.now.bytes sample.now) }
     /// ```
+    ///
+    /// Definitions: [`header_protection`](aead_ciphers::specs::header_protection#header_protection).
     ///
     /// </details>
     #[inline(always)]

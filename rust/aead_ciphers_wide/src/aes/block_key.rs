@@ -30,6 +30,8 @@ impl BlockKey {
     /// ensures { result ≡ key_bytes bytes.entry }
     /// ```
     ///
+    /// Definitions: [`key_bytes`](aead_ciphers_base::specs::key_bytes#key_bytes).
+    ///
     /// </details>
     pub fn new(bytes: KeyBytes<'_>) -> Self {
         simd::run(BlockKeyNew { bytes })
@@ -49,6 +51,8 @@ impl BlockKey {
     /// ```text
     /// ensures { result ≡ aes_mask self.now sample }
     /// ```
+    ///
+    /// Definitions: [`aes_mask`](aead_ciphers_base::specs::mask#aes_mask).
     ///
     /// </details>
     pub fn new_mask(&self, sample: Sample) -> [u8; 5] {
@@ -113,6 +117,8 @@ impl<'k, V: simd::Level> BlockKeyRef<'k, V> {
     /// ensures { result ≡ key_of round_keys.now rounds }
     /// ```
     ///
+    /// Definitions: [`IsSchedule`](crate::specs::wide_schedule#IsSchedule), [`key_of`](crate::specs::wide_schedule#key_of).
+    ///
     /// </details>
     #[inline(always)]
     pub fn new(round_keys: &'k RoundKeys, rounds: usize) -> Self {
@@ -130,6 +136,8 @@ impl<'k, V: simd::Level> BlockKeyRef<'k, V> {
     /// ```text
     /// ensures { result ≡ aes_mask self.now sample }
     /// ```
+    ///
+    /// Definitions: [`aes_mask`](aead_ciphers_base::specs::mask#aes_mask).
     ///
     /// </details>
     #[inline(always)]

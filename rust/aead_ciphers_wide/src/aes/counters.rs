@@ -12,6 +12,8 @@ use simd::{u8x16, u32x4};
 /// ensures { (nonce : List ℕ) (k : ℕ) → IsCounter counter.now nonce k → (i : ℕ) → i < 8 → IsCounter (to_le_bytes w128 (slice_index result i)) nonce (k + i) }
 /// ```
 ///
+/// Definitions: [`IsCounter`](aead_ciphers_base::specs::counter_mode#IsCounter).
+///
 /// </details>
 #[inline(always)]
 pub fn counters<V: simd::Level>(counter: &Counter) -> [Word<V>; 8] {
@@ -36,6 +38,8 @@ pub fn counters<V: simd::Level>(counter: &Counter) -> [Word<V>; 8] {
 /// ```text
 /// ensures { (nonce : List ℕ) (k : ℕ) → IsCounter counter.now nonce k → (i : ℕ) → i < 16 → IsCounter (to_le_bytes w128 (half_of (i % 2) (slice_index result (i / 2)))) nonce (k + i) }
 /// ```
+///
+/// Definitions: [`IsCounter`](aead_ciphers_base::specs::counter_mode#IsCounter), [`half_of`](crate::specs::word#half_of).
 ///
 /// </details>
 #[inline(always)]

@@ -104,6 +104,8 @@ fn copy_key(round_keys: &mut RoundKeys, key: &[u8]) {
 /// ensures unused { AreZerosAfter round_keys.new (length key.now / 4 + 6) }
 /// ```
 ///
+/// Definitions: [`HoldsWords`](crate::specs::wide_schedule#HoldsWords), [`key_words`](aead_ciphers_base::specs::aes#key_words), [`AreZerosAfter`](crate::specs::wide_schedule#AreZerosAfter).
+///
 /// </details>
 #[inline(always)]
 pub fn expand<V: simd::Level>(round_keys: &mut RoundKeys, key: &[u8]) {

@@ -15,6 +15,8 @@ use aead_ciphers_base::aes::Block;
 /// ensures { (k : ℕ) → k < 8 → wide_block result k ≡ to_le_bytes w128 (slice_index words k) }
 /// ```
 ///
+/// Definitions: [`wide_block`](crate::specs::wide_planes#wide_block).
+///
 /// </details>
 #[inline(always)]
 pub fn pack_eight<V: simd::Level>(words: [Word<V>; 8]) -> [Word<V>; 8] {
@@ -28,6 +30,8 @@ pub fn pack_eight<V: simd::Level>(words: [Word<V>; 8]) -> [Word<V>; 8] {
 /// ```text
 /// ensures { (k : ℕ) → k < 8 → slice_index_or result k [] ≡ wide_block planes k }
 /// ```
+///
+/// Definitions: [`wide_block`](crate::specs::wide_planes#wide_block).
 ///
 /// </details>
 #[inline(always)]

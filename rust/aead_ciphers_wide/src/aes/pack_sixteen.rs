@@ -15,6 +15,8 @@ use aead_ciphers_base::aes::Block;
 /// ensures { (k : ℕ) → k < 16 → wider_block result k ≡ to_le_bytes w128 (half_of (k % 2) (slice_index words (k / 2))) }
 /// ```
 ///
+/// Definitions: [`wider_block`](crate::specs::wide_planes#wider_block), [`half_of`](crate::specs::word#half_of).
+///
 /// </details>
 #[inline(always)]
 pub fn pack_sixteen<V: simd::Level>(words: [WiderWord<V>; 8]) -> [WiderWord<V>; 8] {
@@ -35,6 +37,8 @@ fn blocks_of_halves<V: simd::Level>(word: WiderWord<V>) -> (Block, Block) {
 /// ```text
 /// ensures { (k : ℕ) → k < 16 → slice_index_or result k [] ≡ wider_block planes k }
 /// ```
+///
+/// Definitions: [`wider_block`](crate::specs::wide_planes#wider_block).
 ///
 /// </details>
 #[inline(always)]

@@ -106,6 +106,8 @@ pub(super) fn clear_last_four<T: Copy>(rows: &mut [T], zero: T) {
 /// ensures unused { 10 ≤ rounds → AreZerosAfter planes.new rounds }
 /// ```
 ///
+/// Definitions: [`HoldsPlanes`](crate::specs::wide_schedule#HoldsPlanes), [`AreZerosAfter`](crate::specs::wide_schedule#AreZerosAfter).
+///
 /// </details>
 #[inline(always)]
 pub fn write_planes<V: simd::Level>(

@@ -32,6 +32,8 @@ fn exchange_digits<P: Lanes>(words: [P; 8], k: usize) -> [P; 8] {
 /// ensures { (j n : ℕ) → j < P.width / 64 → n < 512 → word_bit (lanes_of j (map P.number result)) n ≡ word_bit (lanes_of j (map P.number words)) (n % 8 * 64 + n / 8 % 8 * 8 + n / 64) }
 /// ```
 ///
+/// Definitions: [`word_bit`](aead_ciphers_base::specs::planes#word_bit), [`lanes_of`](crate::specs::word#lanes_of).
+///
 /// </details>
 #[inline(always)]
 pub fn transpose_bits<P: Lanes>(words: [P; 8]) -> [P; 8] {

@@ -10,6 +10,32 @@ use aead_ciphers_base::error::Unspecified;
 use aead_ciphers_base::values::{Aad, NONCE_LEN, Nonce, Tag};
 
 /// What is kept of a message that is sealed in pieces, as plain data without padding. The keystream in `batch` is secret.
+///
+/// # Examples
+///
+/// ```
+/// use deerlapse::aead::{Aad, Nonce, Unspecified};
+/// use deerlapse::aes_gcm::{ExpandedKey, GcmKey, KeyBytes, SealState, Work};
+///
+/// let bytes = [7; 16]; // not a real key
+/// let mut key = ExpandedKey::zeros();
+/// key.expand(KeyBytes::AES_128(&bytes), &mut Work::new());
+///
+/// let nonce = || Nonce::assume_unique_for_key([1; 12]); // another for each message
+/// let mut state: SealState = key.begin(nonce(), Aad::empty())?;
+/// let mut pieces = [*b"hel", *b"lo!"];
+/// for piece in &mut pieces {
+///     key.update(&mut state, piece)?;
+/// }
+/// let tag = key.finish(state);
+///
+/// // The bytes are those of one call.
+/// let mut whole = *b"hello!";
+/// let tag_of_whole = key.seal(nonce(), Aad::empty(), &mut whole, &mut Work::new())?;
+/// assert_eq!(pieces.concat(), whole);
+/// assert_eq!(tag.as_ref(), tag_of_whole.as_ref());
+/// # Ok::<(), Unspecified>(())
+/// ```
 #[repr(C)]
 pub struct SealState {
     /// The hash of the AAD and of the whole batches of ciphertext.
@@ -44,6 +70,8 @@ impl SealState {
     /// ensures { result ≡ zero_state }
     /// ```
     ///
+    /// Definitions: [`zero_state`](crate::specs::pieces#zero_state).
+    ///
     /// </details>
     #[inline(always)]
     pub fn zeros() -> Self {
@@ -71,6 +99,8 @@ impl SealState {
     /// ensures begun { IfOk result (λ s. (cipher : List ℕ → List ℕ) → G.hash_subkey gcm.now ≡ cipher zero_block → HasSealed cipher nonce (aad_bytes aad.entry) [] [] s) }
     /// ensures cleared { IfOk result (λ s. s.batch ≡ replicate BATCH_LEN 0) }
     /// ```
+    ///
+    /// Definitions: [`Fits`](aead_ciphers::specs::gcm#Fits), [`aad_bytes`](aead_ciphers_base::specs::values#aad_bytes), [`zero_block`](aead_ciphers_base::specs::bytes#zero_block), [`HasSealed`](crate::specs::pieces#HasSealed).
     ///
     /// </details>
     #[inline(always)]
@@ -106,6 +136,8 @@ impl SealState {
     /// ensures begun { IfOk result (λ s. (cipher : List ℕ → List ℕ) → G.hash_subkey gcm.now ≡ cipher zero_block → HasSealed cipher nonce (joined aad.now) [] [] s) }
     /// ensures cleared { IfOk result (λ s. s.batch ≡ replicate BATCH_LEN 0) }
     /// ```
+    ///
+    /// Definitions: [`Fits`](aead_ciphers::specs::gcm#Fits), [`joined`](crate::specs::pieces#joined), [`zero_block`](aead_ciphers_base::specs::bytes#zero_block), [`HasSealed`](crate::specs::pieces#HasSealed).
     ///
     /// </details>
     #[inline(always)]
@@ -147,6 +179,8 @@ impl SealState {
     /// ensures refused { OnErr result ((self.new ≡ self.old) × (in_out.new ≡ in_out.old)) }
     /// ```
     ///
+    /// Definitions: [`zero_block`](aead_ciphers_base::specs::bytes#zero_block), [`Fits`](aead_ciphers::specs::gcm#Fits), [`SealsPiece`](crate::specs::pieces#SealsPiece).
+    ///
     /// </details>
     #[inline(always)]
     pub fn update_with<A: EncryptCtr32, G: UpdateBlocks>(
@@ -176,6 +210,8 @@ impl SealState {
     /// requires fits { Fits self.aad_len self.len }
     /// ensures { (nonce aad message ciphertext : List ℕ) → HasSealed (A.cipher aes.now) nonce aad message ciphertext self → result ≡ gcm_tag (A.cipher aes.now) nonce aad ciphertext }
     /// ```
+    ///
+    /// Definitions: [`zero_block`](aead_ciphers_base::specs::bytes#zero_block), [`Fits`](aead_ciphers::specs::gcm#Fits), [`HasSealed`](crate::specs::pieces#HasSealed), [`gcm_tag`](aead_ciphers::specs::gcm#gcm_tag).
     ///
     /// </details>
     #[inline(always)]

@@ -20,6 +20,17 @@ impl<T, const N: usize> Copy for AsChunks<'_, T, N> {}
 /// Splits a slice into a view of as many whole blocks of `N` items as fit, and the fewer than `N` items
 /// after them.
 ///
+/// # Examples
+///
+/// ```
+/// use aead_ciphers_base::polyfill::slice::as_chunks;
+///
+/// let (blocks, rest) = as_chunks::<_, 2>(&[1, 2, 3, 4, 5]);
+/// assert_eq!(blocks.len(), 2);
+/// assert_eq!(blocks[1], [3, 4]);
+/// assert_eq!(rest, [5]);
+/// ```
+///
 /// <details><summary>Contract</summary>
 ///
 /// ```text
@@ -29,6 +40,8 @@ impl<T, const N: usize> Copy for AsChunks<'_, T, N> {}
 /// ensures rest { result.1.now ≡ drop (length items.now / N * N) items.now }
 /// ensures short { length result.1.now < N }
 /// ```
+///
+/// Definitions: [`blocks`](crate::specs::blocks#blocks).
 ///
 /// </details>
 #[inline(always)]
@@ -52,6 +65,8 @@ impl<'a, T, const N: usize> AsChunks<'a, T, N> {
     /// ensures view { 0 < N → blocks N result.items.now ≡ block.now ∷ [] }
     /// ```
     ///
+    /// Definitions: [`blocks`](crate::specs::blocks#blocks).
+    ///
     /// </details>
     #[inline(always)]
     pub fn from_ref(block: &'a [T; N]) -> Self {
@@ -68,6 +83,8 @@ impl<'a, T, const N: usize> AsChunks<'a, T, N> {
     /// ensures items { result.now ≡ self.now.items.now }
     /// ensures view { result.now ≡ joined (blocks N self.now.items.now) }
     /// ```
+    ///
+    /// Definitions: [`joined`](crate::specs::blocks#joined), [`blocks`](crate::specs::blocks#blocks).
     ///
     /// </details>
     #[inline(always)]
@@ -96,6 +113,8 @@ impl<'a, T, const N: usize> AsChunks<'a, T, N> {
     /// ```text
     /// ensures { result ≡ length (blocks N self.now.items.now) }
     /// ```
+    ///
+    /// Definitions: [`blocks`](crate::specs::blocks#blocks).
     ///
     /// </details>
     #[inline(always)]
@@ -134,6 +153,8 @@ impl<'a, T, const N: usize> Iterator for AsChunksIter<'a, T, N> {
     /// ensures upper { IfSome result.1 (UpTo (at_most (length (blocks N self.now.items.now)))) }
     /// ensures exact { let count = length (blocks N self.now.items.now) in result ≡ (count, Some count) }
     /// ```
+    ///
+    /// Definitions: [`blocks`](crate::specs::blocks#blocks).
     ///
     /// </details>
     #[inline(always)]

@@ -18,6 +18,21 @@ fn split_after_whole_blocks<T, const N: usize>(items: &mut [T]) -> (&mut [T], &m
 /// Splits a slice into a view of as many whole blocks of `N` items as fit, and the fewer than `N` items
 /// after them.
 ///
+/// # Examples
+///
+/// ```
+/// use aead_ciphers_base::polyfill::slice::as_chunks_mut;
+///
+/// let mut items = [1, 2, 3, 4, 5, 6, 7];
+/// let (mut view, rest) = as_chunks_mut::<_, 2>(&mut items);
+/// assert_eq!(rest, [7]);
+///
+/// let (mut before, after) = view.split_at_mut(2);
+/// assert_eq!(after.as_flattened(), [5, 6]);
+/// before.as_flattened_mut().fill(0);
+/// assert_eq!(items, [0, 0, 0, 0, 5, 6, 7]);
+/// ```
+///
 /// <details><summary>Contract</summary>
 ///
 /// ```text
@@ -28,6 +43,8 @@ fn split_after_whole_blocks<T, const N: usize>(items: &mut [T]) -> (&mut [T], &m
 /// ensures rest { result.1.now ≡ drop (length items.old / N * N) items.old }
 /// ensures short { length result.1.now < N }
 /// ```
+///
+/// Definitions: [`LendsInTwo`](crate::specs::chunks_mut#LendsInTwo), [`blocks`](crate::specs::blocks#blocks).
 ///
 /// </details>
 #[inline(always)]
@@ -60,6 +77,8 @@ impl<'a, T, const N: usize> AsChunksMut<'a, T, N> {
     /// ensures view { result.now ≡ joined (blocks N self.now.items.now) }
     /// ```
     ///
+    /// Definitions: [`joined`](crate::specs::blocks#joined), [`blocks`](crate::specs::blocks#blocks).
+    ///
     /// </details>
     #[inline(always)]
     pub fn as_flattened(&self) -> &[T] {
@@ -75,6 +94,8 @@ impl<'a, T, const N: usize> AsChunksMut<'a, T, N> {
     /// ensures items { result.now ≡ self.old.items.now }
     /// ```
     ///
+    /// Definitions: [`LendsItems`](crate::specs::as_chunks_mut#LendsItems).
+    ///
     /// </details>
     #[inline(always)]
     pub fn as_flattened_mut(&mut self) -> &mut [T] {
@@ -89,6 +110,8 @@ impl<'a, T, const N: usize> AsChunksMut<'a, T, N> {
     /// ensures* writes_back { sem 𝓛 (LendsItems T.row N.row self.entry result.items) }
     /// ensures items { result.items.now ≡ self.old.items.now }
     /// ```
+    ///
+    /// Definitions: [`LendsItems`](crate::specs::as_chunks_mut#LendsItems).
     ///
     /// </details>
     #[inline(always)]
@@ -125,6 +148,8 @@ impl<'a, T, const N: usize> AsChunksMut<'a, T, N> {
     /// ensures back { result.1.items.now ≡ drop (mid * N) self.old.items.now }
     /// ```
     ///
+    /// Definitions: [`blocks`](crate::specs::blocks#blocks), [`LendsParts`](crate::specs::as_chunks_mut#LendsParts).
+    ///
     /// </details>
     #[inline(always)]
     pub fn split_at_mut(&mut self, mid: usize) -> (AsChunksMut<'_, T, N>, AsChunksMut<'_, T, N>) {
@@ -143,6 +168,8 @@ impl<'a, T, const N: usize> AsChunksMut<'a, T, N> {
     /// ensures rest { chunks_mut_rest result.chunks ≡ self.old.items.now }
     /// ensures size { 0 < N → chunks_mut_size result.chunks ≡ CHUNK_LEN * N }
     /// ```
+    ///
+    /// Definitions: [`KeepsCount`](crate::specs::as_chunks_mut#KeepsCount).
     ///
     /// </details>
     #[inline(always)]
@@ -179,6 +206,8 @@ impl<'a, T, const N: usize> Iterator for AsChunksMutChunksMutIter<'a, T, N> {
     /// ensures upper { IfSome result.1 (UpTo (at_most (parts_left self.now.chunks))) }
     /// ensures exact { let count = parts_left self.now.chunks in result ≡ (count, Some count) }
     /// ```
+    ///
+    /// Definitions: [`parts_left`](crate::specs::chunks_mut#parts_left).
     ///
     /// </details>
     #[inline(always)]

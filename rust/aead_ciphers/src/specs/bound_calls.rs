@@ -1,0 +1,36 @@
+//! What one call of a bound key does to the key, its sequence and the buffer, and what the sequence says of its nonce.
+//!
+//! The definitions of `crates/aead_ciphers/specs/BoundCalls.antt`, which use those of [`bound_state`](crate::specs::bound_state), [`gcm`](crate::specs::gcm), [`nonce_sequence`](crate::specs::nonce_sequence), [`steps`](crate::specs::steps), [`aes`](aead_ciphers_base::specs::aes).
+//!
+//! <div id="SealingCall"></div>
+//!
+//! ```text
+//! module _ {N : Type 0} (spent : N → List (List ℕ)) (is_closed : N → Bool) (origin : N → List ℕ) (Gives Refuses : N → N → Type 0) where
+//!   -- Sealing with the tag appended: it fails only for lengths, for want of room or where the sequence refuses.
+//!   pub record SealingCall (may_refuse may_grant : Type 0) (was now : BoundState N) (aad old new : List ℕ)
+//!       {X E : Type 0} (result : Result X E) : Type 0 where
+//!     pub kept : Keeps origin was now
+//!     pub step : SealStep spent is_closed may_refuse may_grant was now aad old new (is_ok result)
+//!     pub granted : IsOk result → may_grant
+//!     pub fits : IsOk result → Fits (length aad) (length old)
+//!     pub gives : OnOk result (Gives was.sequence now.sequence)
+//!     pub refuses : Fits (length aad) (length old) → ¬ may_refuse → OnErr result (Refuses was.sequence now.sequence)
+//!     pub after_error : OnErr result ((may_refuse × (now ≡ was)) ⊎ Refuses was.sequence now.sequence ⊎ Gives was.sequence now.sequence)
+//! ```
+//!
+//! <div id="OpeningCall"></div>
+//!
+//! ```text
+//!   -- Opening with the tag attached: unless the sequence refuses, under its next nonce.
+//!   pub record OpeningCall (is_next : N → List ℕ → Type 0) (was now : BoundState N) (aad : List ℕ) (start : ℕ) (old new : List ℕ)
+//!       {X E : Type 0} (result : Result X E) : Type 0 where
+//!     pub kept : Keeps origin was now
+//!     pub step : OpenStep spent is_closed was now aad start old new (is_ok result)
+//!     pub opened : ¬ Refuses was.sequence now.sequence → UnderNext (is_next was.sequence) (λ nonce.
+//!         OpenedAttached (aes was.key.bytes) nonce aad start old (is_ok result) new)
+//!     pub plaintext : OnOk result (UnderNext (is_next was.sequence) (λ nonce. take (length old - tag_len - start) new
+//!         ≡ gcm_decrypted (aes was.key.bytes) nonce (drop start (take (length old - tag_len) old))))
+//!     pub refused : OnErr result (new ≡ old)
+//!     pub gives : OnOk result (Gives was.sequence now.sequence)
+//!     pub after_error : OnErr result (Refuses was.sequence now.sequence ⊎ Gives was.sequence now.sequence)
+//! ```

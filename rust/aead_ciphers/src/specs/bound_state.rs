@@ -1,0 +1,21 @@
+//! What a contract sees of a key that is bound to a nonce sequence.
+//!
+//! The definitions of `crates/aead_ciphers/specs/BoundState.antt`, which use those of [`aead_key`](crate::specs::aead_key).
+//!
+//! <div id="BoundState"></div>
+//!
+//! ```text
+//! -- the key and its sequence
+//! pub record BoundState (N : Type 0) : Type 0 where
+//!   pub key : AeadKey
+//!   pub sequence : N
+//! ```
+//!
+//! <div id="Keeps"></div>
+//!
+//! ```text
+//! -- the key, with its algorithm, is unchanged, and so is the origin of the sequence: numbers that no call changes
+//! pub record Keeps {N : Type 0} (origin : N → List ℕ) (was now : BoundState N) : Type 0 where
+//!   pub key_kept : now.key ≡ was.key
+//!   pub origin_kept : origin now.sequence ≡ origin was.sequence
+//! ```

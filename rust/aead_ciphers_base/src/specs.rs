@@ -1,0 +1,24 @@
+//! The definitions that the contracts of this crate cite, from the files of `crates/aead_ciphers_base/specs`.
+//!
+//! A definition is its type and then its equations, of which the first that fits the arguments counts. `f x y` is f of x and y,
+//! and `λ x. e` is the function whose value at x is e. A fact has the type `Type 0`: a `record` of facts holds if each of them
+//! does, and a `data` if one of its cases does. `◌` is the place of an operator's argument. `docs/BELIEVE.md` of the repository
+//! explains all words, under *Words of the clauses*.
+
+pub mod aes;
+pub mod as_chunks_mut;
+pub mod blocks;
+pub mod byte_field;
+pub mod bytes;
+pub mod cha_cha20;
+pub mod chunks_mut;
+pub mod counter_mode;
+pub mod key_bytes;
+pub mod key_schedule;
+pub mod mask;
+pub mod overlapping;
+pub mod planes;
+pub mod polynomial;
+pub mod shift;
+pub mod values;
+pub mod work;

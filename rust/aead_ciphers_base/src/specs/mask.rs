@@ -1,0 +1,21 @@
+//! The header protection masks of QUIC (RFC 9001).
+//!
+//! The definitions of `crates/aead_ciphers_base/specs/Mask.antt`, which use those of [`aes`](crate::specs::aes), [`cha_cha20`](crate::specs::cha_cha20).
+//!
+//! <div id="aes_mask"></div>
+//!
+//! ```text
+//! -- the first five bytes of the encrypted sample (sections 5.4.1 and 5.4.3)
+//! unfoldable pub aes_mask : List ℕ → List ℕ → List ℕ
+//! aes_mask key sample = take 5 (aes key sample)
+//! ```
+//!
+//! <div id="chacha_mask"></div>
+//!
+//! ```text
+//! -- the first five bytes of the block whose counter is the first four bytes of the sample, in little-endian order, and
+//! -- whose nonce is the other twelve bytes (section 5.4.4)
+//! unfoldable pub chacha_mask : List ℕ → List ℕ → List ℕ
+//! chacha_mask key sample =
+//!     take 5 (chacha20_block key (from_le_bytes w32 (take 4 sample)) (drop 4 sample))
+//! ```

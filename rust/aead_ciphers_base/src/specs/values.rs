@@ -1,0 +1,10 @@
+//! What a contract sees of an `Aad`: its bytes.
+//!
+//! The definitions of `crates/aead_ciphers_base/specs/Values.antt`.
+//!
+//! <div id="aad_bytes"></div>
+//!
+//! ```text
+//! abbrev pub aad_bytes : Aad → List ℕ
+//! aad_bytes aad = aad.bytes.now
+//! ```

@@ -1,0 +1,14 @@
+//! The definitions that the contracts of this crate cite, from the files of `crates/aead_ciphers_wide/specs`.
+//!
+//! A definition is its type and then its equations, of which the first that fits the arguments counts. `f x y` is f of x and y,
+//! and `λ x. e` is the function whose value at x is e. A fact has the type `Type 0`: a `record` of facts holds if each of them
+//! does, and a `data` if one of its cases does. `◌` is the place of an operator's argument. `docs/BELIEVE.md` of the repository
+//! explains all words, under *Words of the clauses*.
+
+pub mod expanded_key;
+pub mod pieces;
+pub mod products;
+pub mod wide_planes;
+pub mod wide_schedule;
+pub mod width;
+pub mod word;
