@@ -32,6 +32,9 @@ def check(path, text, traits):
                 raise Fault(f"{path}:{token.line}: the attribute `{name}` is in no list")
     for name, line in unused_imports(found, traits):
         raise Fault(f"{path}:{line}: nothing uses the import `{name}`")
+    for item in all_items(found):
+        if item.kind == "use" and any(token.text.startswith("///") for token in item.lead):
+            raise Fault(f"{path}:{item.line}: an import has the comment of another item")
 
 
 def unused_imports(found, traits):
