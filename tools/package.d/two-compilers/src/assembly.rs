@@ -2,8 +2,8 @@
 //!
 //! # Safety
 //!
-//! What is said here holds for each call. A pointer with a length is that of a slice, an array or a key is passed by a reference,
-//! and what is written is borrowed for it alone. A key is as the library initialized it.
+//! In each call, a pointer with a length is that of a slice, arrays and keys are passed by reference, and what the call writes is
+//! borrowed for it alone. A key, a sealer, an opener or a message in pieces is one that the library initialized.
 
 use crate::cipher::{Cipher, Given, TAG_LEN};
 

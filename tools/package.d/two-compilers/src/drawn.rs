@@ -60,7 +60,7 @@ pub struct Sealed<const N: usize> {
     pub with: Message<N>,
     plaintext: Vec<u8>,
     /// Whether none of it was changed.
-    pub is_right: bool,
+    is_right: bool,
 }
 
 impl<const N: usize> Sealed<N> {

@@ -5,6 +5,9 @@
 //!
 //! The argument is the number of levels of vectors that the Rust may use, of those that the processor has.
 
+#![deny(unsafe_code)]
+
+#[allow(unsafe_code)]
 mod assembly;
 mod calls;
 mod cipher;

@@ -6,7 +6,10 @@
 //! prints how many these are. With a second one, `branch` or `address`, it leaks a byte of a key instead, to show that this is
 //! seen.
 
+#![deny(unsafe_code)]
+
 mod calls;
+#[allow(unsafe_code)]
 mod marks;
 
 use std::hint::black_box;
