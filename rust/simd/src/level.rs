@@ -1,6 +1,6 @@
 //! The trait of levels, and the trait of what is run at one.
 
-use crate::processor::Bytes;
+use crate::processor::{self, Bytes};
 
 /// What `Level` is implemented for is decided here.
 pub trait Sealed {}
@@ -22,6 +22,13 @@ pub trait Level: Sealed + Copy + 'static {
 
     #[doc(hidden)]
     fn permuted(table: Bytes, places: Bytes) -> Bytes;
+
+    /// The same for places that are no secret, so that memory may be read at them.
+    #[doc(hidden)]
+    #[inline(always)]
+    fn permuted_at(table: Bytes, places: [u8; 16]) -> Bytes {
+        Self::permuted(table, processor::from_array(places))
+    }
 
     #[doc(hidden)]
     fn wide(low: Bytes, high: Bytes) -> Self::Wide;

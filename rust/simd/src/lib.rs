@@ -28,10 +28,10 @@
 //! |---|---|
 //! | x86-64 | SSE2, which each processor has; SSSE3 and what else x86-64-v2 has; AVX2 and what else x86-64-v3 has |
 //! | ARM64, little-endian | NEON |
-//! | each other | arrays |
+//! | each other | numbers of 64 bits, whatever the order of bytes in memory is |
 //!
-//! With SSE2 alone and on arrays, a permutation reads all sixteen bytes of the table for each place, by masks: no index of memory
-//! depends on a place.
+//! With SSE2 alone and on numbers of 64 bits, a permutation reads all sixteen bytes of the table for each place, by masks: no index
+//! of memory depends on a place. Only where the places are no secret, memory may be read at them.
 
 #![no_std]
 #![deny(unsafe_op_in_unsafe_fn)]

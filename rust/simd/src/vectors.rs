@@ -111,13 +111,14 @@ impl<V: Level> u8x16<V> {
         Self::of(V::permuted(self.bytes, places.bytes))
     }
 
-    /// Returns the byte at each of these places, which are below 16.
+    /// Returns the byte at each of these places, which are below 16 and no secret: other than [`swizzle_dyn`](Self::swizzle_dyn),
+    /// this may read memory at them.
     #[inline(always)]
     pub fn swizzle(self, places: [u8; 16]) -> Self {
-        self.swizzle_dyn(Self::from_array(places))
+        Self::of(V::permuted_at(self.bytes, places))
     }
 
-    /// Returns the byte at each place in the two vectors, one after the other.
+    /// Returns the byte at each place in the two vectors, one after the other. The places are no secret.
     #[inline(always)]
     pub fn shuffle(self, other: Self, places: Places) -> Self {
         self.swizzle(places.here) ^ other.swizzle(places.there)
