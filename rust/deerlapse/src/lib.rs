@@ -47,6 +47,9 @@ pub use tls_messages;
 pub use xaes;
 
 /// AES-GCM (SP 800-38D) under ring's names.
+///
+/// The keys are those of the package `aead_ciphers_wide`, on each target. Those of `aead_ciphers` are the same types over another
+/// expanded key. Where `simd` has no vectors, as on riscv64, they take about half as many instructions or fewer.
 pub mod aead {
     pub use aead_ciphers::aead::{
         AES_128_GCM, AES_256_GCM, Aad, Algorithm, BoundKey, CounterSequence, InOut, MAX_TAG_LEN,
