@@ -6,7 +6,16 @@
 //!
 //! ```text
 //! module _ {N : Type 0} (spent : N → List (List ℕ)) (is_closed : N → Bool) (origin : N → List ℕ) (Gives Refuses : N → N → Type 0) where
-//!   -- Sealing with the tag appended: it fails only for lengths, for want of room or where the sequence refuses.
+//!   -- Sealing with the tag appended: it fails only for lengths, for want of room or where the sequence refuses. `Gives` and
+//!   -- `Refuses` are the ghost items `gives` and `refuses` of the sequence, and not the `Refuses` of Steps.antt.
+//!   -- kept: the key and the origin of the sequence are unchanged
+//!   -- step: one of the cases of `SealStep`
+//!   -- granted: if it succeeds, `may_grant` holds
+//!   -- fits: if it succeeds, the lengths are within the limits
+//!   -- gives: if it succeeds, the sequence has returned a nonce
+//!   -- refuses: if it fails although the lengths are within the limits and `may_refuse` doesn't hold, the sequence has returned none
+//!   -- after_error: if it fails, the key and its sequence are unchanged for want of room, or the sequence has returned no nonce, or
+//!   --   it has returned one
 //!   pub record SealingCall (may_refuse may_grant : Type 0) (was now : BoundState N) (aad old new : List ℕ)
 //!       {X E : Type 0} (result : Result X E) : Type 0 where
 //!     pub kept : Keeps origin was now
@@ -22,6 +31,13 @@
 //!
 //! ```text
 //!   -- Opening with the tag attached: unless the sequence refuses, under its next nonce.
+//!   -- kept: the key and the origin of the sequence are unchanged
+//!   -- step: one of the cases of `OpenStep`
+//!   -- opened: unless the sequence has refused, the buffer is opened under the nonce that is next by `is_next`
+//!   -- plaintext: if it succeeds, the buffer begins with the plaintext under that nonce
+//!   -- refused: if it fails, the buffer is unchanged
+//!   -- gives: if it succeeds, the sequence has returned a nonce
+//!   -- after_error: if it fails, the sequence has returned no nonce, or it has returned one
 //!   pub record OpeningCall (is_next : N → List ℕ → Type 0) (was now : BoundState N) (aad : List ℕ) (start : ℕ) (old new : List ℕ)
 //!       {X E : Type 0} (result : Result X E) : Type 0 where
 //!     pub kept : Keeps origin was now
