@@ -30,7 +30,7 @@ pub mod generic {
     pub use super::key::Key;
 }
 
-/// A key of AES-GCM over the ciphers of these libraries. [`generic::Key`] has the methods.
+/// A key of AES-GCM. It is [`generic::Key`], which has the methods, over [`ExpandedKey`].
 pub type Key = key::Key<ExpandedKey>;
 
 /// Encrypts `in_out` in place, and returns the 16-byte tag of the ciphertext and `aad` (SP 800-38D section 7.1).
@@ -65,7 +65,7 @@ pub fn seal<K: GcmKey>(
 /// Fails with `Unspecified`, and leaves `in_out` unchanged, in these cases, which are checked in this order:
 ///
 /// - `src.start` is greater than `in_out.len()`.
-/// - The lengths exceed the limits of `seal`.
+/// - The lengths exceed the limits of [`seal`].
 /// - `received_tag` is not the tag of the ciphertext and `aad`.
 pub fn open<K: GcmKey>(
     key: &generic::Key<K>,

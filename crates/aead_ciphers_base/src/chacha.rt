@@ -1,4 +1,7 @@
 //! The stream cipher ChaCha20 (RFC 8439 sections 2.1 to 2.4). Read `Key::encrypt` first.
+//!
+//! It doesn't authenticate: whoever changes a bit of the ciphertext changes that bit of the plaintext.
+//! There is no Poly1305.
 
 ghost use Rattle.std.specs.Prelude.{◌≡◌, ℕ, ◌+◌, ◌-◌, ◌*◌, ◌^◌, ◌<◌, ◌≤◌, List, ◌∷◌, ◌++◌, length, take, drop, slice_index, slice_set};
 ghost use Rattle.std.specs.Int.{div_ceil};
@@ -211,7 +214,8 @@ impl Key {
     /// section 2.4), and writes the output to the front of the slice.
     ///
     /// The output is as long as the input. The bytes after it are unchanged. The number of the last
-    /// block must be below 2^32.
+    /// block must be below 2^32. In Rust nothing checks this: after block 2^32 - 1 a call may panic, or
+    /// continue with block 0.
     pub fn encrypt(&self, counter: Counter, in_out: Overlapping<'_>)
         requires { counter.number + div_ceil (input_len in_out) 64 ≤ 2 ^ 32 }
         ensures { let input = input_of in_out.entry in
@@ -223,7 +227,7 @@ impl Key {
     }
 
     /// Encrypts at most 64 bytes in place with block 0 of the keystream, and returns the counter of
-    /// block 1.
+    /// block 1. In Rust nothing checks this, and further bytes are encrypted with the blocks from 1 on.
     pub fn encrypt_single_block_with_ctr_0<const N: usize>(
         &self,
         nonce: Nonce,

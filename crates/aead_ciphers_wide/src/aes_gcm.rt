@@ -27,8 +27,11 @@ use std::ops::RangeFrom;
 
 /// An expanded AES-GCM key as plain data.
 ///
-/// Sealing and opening require the fields to be as `expand` left them, and only read them, so many threads may use a
-/// key at once.
+/// Sealing and opening require the fields to be as `expand` left them. In Rust nothing checks this, and a call with other fields
+/// may panic or return wrong results. The fields are only read, so many threads may use a key at once.
+///
+/// Calls that take a `work` add their cipher blocks and field products to it. A caller that doesn't need the numbers passes
+/// `&mut Work::new()`.
 ///
 /// # Examples
 ///
@@ -67,8 +70,7 @@ pub struct ExpandedKey {
 }
 
 impl ExpandedKey {
-    /// Does the same as `expand`, for planes of this width, as the clause `width` says. No byte of a key that was there before
-    /// stays.
+    /// Does the same as [`expand`](GcmKey::expand), for batches on planes of this width. Overwrites the whole of an earlier key.
     pub fn expand_with_width(&mut self, bytes: KeyBytes<'_>, width: Width, work: &mut Work)
         requires { CanAdd work.old 1 0 }
         ensures expanded { IsExpanded self.new }
@@ -117,8 +119,8 @@ impl ExpandedKey {
         gcm::KeyRef::new(&self.products, &self.squares)
     }
 
-    /// Opens as `open` does, but the tag is the last 16 bytes of `in_out`, which are unchanged. Also fails if `in_out` is
-    /// shorter than 16 bytes. The tag is not read before the lengths are checked, so a length from C may be false.
+    /// Opens as [`open`](GcmKey::open) does, but the tag is the last 16 bytes of `in_out`, which are unchanged. Also fails if
+    /// `in_out` is shorter than 16 bytes.
     pub fn open_within_to_front(
         &self,
         nonce: Nonce,
@@ -137,6 +139,7 @@ impl ExpandedKey {
             .ok_or(Unspecified)?;
         match before_tag.len().checked_sub(ciphertext_and_tag.start) {
             Some(len) if fits(aad.as_ref().len(), len) => {
+                // Read after the lengths are checked, since a caller in C may pass a false length.
                 let tag = Tag::from(*tag);
                 let aes = self.aes();
                 let gcm = self.gcm();

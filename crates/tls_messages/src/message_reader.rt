@@ -71,7 +71,8 @@ impl<'b> Model for MessageReader<'b> {
 }
 
 impl<'b> MessageReader<'b> {
-    /// Creates a reader that takes messages of at most as many bytes as the buffer has.
+    /// Creates a reader that takes messages of at most as many bytes as the buffer has. The buffer must have at least
+    /// [`MESSAGE_HEADER_LEN`] bytes. In Rust nothing checks this, and a later call may panic.
     pub fn new(buffer: &'b mut [u8], stage: Stage) -> Self
         requires { MESSAGE_HEADER_LEN ≤ length buffer.old }
         ensures { result ≡ record {

@@ -28,9 +28,10 @@ use std::ops::RangeFrom;
 /// twice under one key.
 ///
 /// What each message needs of the key is computed once, by `new`. Each call derives the AES-256-GCM key of its message, and expands
-/// it. Neither is overwritten when the call returns, since no contract can say what the memory of a call holds afterwards.
+/// it. No contract promises that either is overwritten when the call returns, since none can say what the memory of a call holds
+/// afterwards.
 ///
-/// As AES-GCM, XAES-256-GCM does not commit to the key: a ciphertext and tag can be made that two keys open.
+/// Like AES-GCM, XAES-256-GCM does not commit to the key: a ciphertext and tag can be made that two keys open.
 ///
 /// # Examples
 ///
@@ -94,7 +95,8 @@ impl Xaes256Gcm {
         Xaes256Gcm { expanded }
     }
 
-    /// Creates a key from its expanded key, whose messages may be encrypted on planes of either width.
+    /// Creates a key from its expanded key, which must be as [`ExpandedKey::expand`] left it. Its messages may be encrypted on
+    /// planes of either width.
     pub fn from_expanded(key: ExpandedKey) -> Self
         requires { IsExpanded key }
         ensures { result ≡ bytes_of key }
@@ -151,7 +153,7 @@ impl Xaes256Gcm {
     /// # Errors
     ///
     /// Fails with `Unspecified`, and leaves the bytes of `in_out` unchanged, if there is no room for the tag, which is reserved
-    /// first, or else if the lengths exceed the limits of `seal_in_place_separate_tag`.
+    /// first, or else if the lengths exceed the limits of [`seal_in_place_separate_tag`](Self::seal_in_place_separate_tag).
     pub fn seal_in_place_append_tag<B: InOut>(
         &self,
         nonce: XNonce,
@@ -176,7 +178,12 @@ impl Xaes256Gcm {
     ///
     /// # Errors
     ///
-    /// Fails with `Unspecified`, and leaves `out` unchanged, if the lengths exceed the limits of `seal_in_place_separate_tag`.
+    /// Fails with `Unspecified`, and leaves `out` unchanged, if the lengths exceed the limits of
+    /// [`seal_in_place_separate_tag`](Self::seal_in_place_separate_tag).
+    ///
+    /// # Panics
+    ///
+    /// In Rust, panics if the lengths are within the limits and `out` and `plaintext` differ in length.
     pub fn seal_to(
         &self,
         nonce: XNonce,
@@ -203,7 +210,7 @@ impl Xaes256Gcm {
     /// Fails with `Unspecified`, and leaves `in_out` unchanged, in these cases, which are checked in this order:
     ///
     /// - `ciphertext.start` is greater than `in_out.len()`.
-    /// - The lengths exceed the limits of `seal_in_place_separate_tag`.
+    /// - The lengths exceed the limits of [`seal_in_place_separate_tag`](Self::seal_in_place_separate_tag).
     /// - `tag` is not the tag of the ciphertext and `aad`.
     pub fn open_in_place_separate_tag_to_front(
         &self,
@@ -232,7 +239,7 @@ impl Xaes256Gcm {
     ///
     /// - `in_out` is shorter than 16 bytes.
     /// - `ciphertext_and_tag.start` is greater than `in_out.len() - 16`.
-    /// - The lengths exceed the limits of `seal_in_place_separate_tag`.
+    /// - The lengths exceed the limits of [`seal_in_place_separate_tag`](Self::seal_in_place_separate_tag).
     /// - The tag is not that of the ciphertext and `aad`.
     pub fn open_within_to_front(
         &self,
@@ -250,7 +257,8 @@ impl Xaes256Gcm {
             .open_within_to_front(nonce, aad, in_out, ciphertext_and_tag)
     }
 
-    /// Opens the whole of `in_out`, like `open_within_to_front` with the range `0..`.
+    /// Opens the whole of `in_out`, like [`open_within_to_front`](Self::open_within_to_front) with the range `0..`. If it returns
+    /// n, the plaintext is `in_out[..n]`.
     pub fn open_in_place_to_front(
         &self,
         nonce: XNonce,
@@ -269,8 +277,12 @@ impl Xaes256Gcm {
     ///
     /// # Errors
     ///
-    /// Fails with `Unspecified`, and leaves `out` unchanged, if the lengths exceed the limits of `seal_in_place_separate_tag`, or if
-    /// `tag` is not the tag of the ciphertext and `aad`.
+    /// Fails with `Unspecified`, and leaves `out` unchanged, if the lengths exceed the limits of
+    /// [`seal_in_place_separate_tag`](Self::seal_in_place_separate_tag), or if `tag` is not the tag of the ciphertext and `aad`.
+    ///
+    /// # Panics
+    ///
+    /// In Rust, panics if the tag is right and `out` and `ciphertext` differ in length.
     pub fn open_to(
         &self,
         nonce: XNonce,

@@ -1,8 +1,9 @@
 //! XAES-256-GCM (a specification of C2SP, <https://c2sp.org/XAES-256-GCM>): AES-256-GCM with nonces of 24 bytes, which are long
 //! enough to be drawn at random for each message.
 //!
-//! Read `Xaes256Gcm` first. `ExpandedKey` is the same key as plain data. The examples are in plain Rust, over the package
-//! `deerlapse` of the folder `rust`. `docs/guide/RATTLE.md` has an example in Rattle.
+//! Read `Xaes256Gcm` first. `ExpandedKey` is the same key as plain data. Programs in Rust take the package `deerlapse`, whose
+//! paths the examples have.
+// `docs/guide/RATTLE.md` has an example in Rattle.
 #![tactic(auto)]
 
 mod cmac;

@@ -34,14 +34,14 @@ pub mod generic {
     pub use super::sealing_key::SealingKey;
 }
 
-/// A key whose calls take the nonce as an argument, over the ciphers of these libraries.
-/// [`generic::LessSafeKey`] has the methods.
+/// A key whose calls take the nonce as an argument. It is [`generic::LessSafeKey`], which has the methods, over
+/// [`ExpandedKey`].
 pub type LessSafeKey = less_safe_key::LessSafeKey<ExpandedKey>;
 
-/// A key that seals each message under the next nonce of its sequence, over the ciphers of these libraries.
-/// [`generic::SealingKey`] has the methods.
+/// A key that seals each message under the next nonce of its sequence. It is [`generic::SealingKey`], which has the
+/// methods, over [`ExpandedKey`].
 pub type SealingKey<N> = sealing_key::SealingKey<ExpandedKey, N>;
 
-/// A key that opens each message under the next nonce of its sequence, over the ciphers of these libraries.
-/// [`generic::OpeningKey`] has the methods.
+/// A key that opens each message under the next nonce of its sequence. It is [`generic::OpeningKey`], which has the
+/// methods, over [`ExpandedKey`].
 pub type OpeningKey<N> = opening_key::OpeningKey<ExpandedKey, N>;

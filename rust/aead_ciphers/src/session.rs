@@ -1,4 +1,7 @@
 //! Lists of jobs that are run, in order, with a sealing and an opening key.
+//!
+//! A job seals or opens one message. [`run`] does what a loop over the calls of the keys does, and its contract is
+//! about the whole list: for example, that the sealing key uses no nonce twice.
 
 use crate::aead::generic::{OpeningKey, SealingKey};
 use crate::aead::{Aad, NonceSequence};
@@ -22,7 +25,7 @@ pub enum Outcome {
     Sealed,
     /// The buffer begins with the plaintext, which has this length in bytes.
     Opened(usize),
-    /// The call failed, and the buffer is unchanged.
+    /// The call failed, or the job has not been run. The buffer is unchanged.
     Refused,
 }
 

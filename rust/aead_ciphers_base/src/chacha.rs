@@ -1,4 +1,7 @@
 //! The stream cipher ChaCha20 (RFC 8439 sections 2.1 to 2.4). Read `Key::encrypt` first.
+//!
+//! It doesn't authenticate: whoever changes a bit of the ciphertext changes that bit of the plaintext.
+//! There is no Poly1305.
 
 use crate::values::{Nonce, Sample};
 use crate::{bb, overlapping};
@@ -210,7 +213,8 @@ impl Key {
     /// section 2.4), and writes the output to the front of the slice.
     ///
     /// The output is as long as the input. The bytes after it are unchanged. The number of the last
-    /// block must be below 2^32.
+    /// block must be below 2^32. In Rust nothing checks this: after block 2^32 - 1 a call may panic, or
+    /// continue with block 0.
     ///
     /// <details><summary>Contract</summary>
     ///
@@ -228,7 +232,7 @@ impl Key {
     }
 
     /// Encrypts at most 64 bytes in place with block 0 of the keystream, and returns the counter of
-    /// block 1.
+    /// block 1. In Rust nothing checks this, and further bytes are encrypted with the blocks from 1 on.
     ///
     /// <details><summary>Contract</summary>
     ///

@@ -1,7 +1,7 @@
 //! The primitives below AES-GCM and QUIC header protection: bit-sliced AES, ChaCha20, the buffers that
 //! both work on, and the plain values that calls take and return. Read `values` and `overlapping`
-//! first. The examples are in plain Rust, where possible over the package `deerlapse` of the folder
-//! `rust`. `docs/guide/RATTLE.md` has examples in Rattle.
+//! first. Programs in Rust take the package `deerlapse`, whose paths the examples have, except for
+//! what it doesn't re-export.
 //!
 //! # Contracts
 //!

@@ -11,6 +11,8 @@ pub const NONCE_LEN: usize = 12;
 pub const MAX_TAG_LEN: usize = 16;
 
 /// The 16 bytes of a packet from which its header protection mask is computed (RFC 9001 section 5.4.2).
+/// [`chacha::Key::new_mask`](crate::chacha::Key::new_mask) and `new_mask` of an expanded AES key take
+/// it. `HeaderProtectionKey::new_mask` takes a slice instead.
 pub type Sample = [u8; 16];
 
 /// A nonce: 12 bytes that are used only once under a key. Calls consume it, and it cannot be cloned.

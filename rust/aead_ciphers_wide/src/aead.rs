@@ -5,7 +5,7 @@ pub mod quic;
 use crate::aes_gcm::ExpandedKey;
 use aead_ciphers::aead::generic;
 
-/// A key whose calls take the nonce as an argument, over the ciphers of this crate. [`generic::LessSafeKey`] has the methods.
+/// A key whose calls take the nonce as an argument. It is [`generic::LessSafeKey`], which has the methods, over [`ExpandedKey`].
 ///
 /// # Examples
 ///
@@ -29,8 +29,8 @@ use aead_ciphers::aead::generic;
 /// ```
 pub type LessSafeKey = generic::LessSafeKey<ExpandedKey>;
 
-/// A key that seals each message under the next nonce of its sequence, over the ciphers of this crate. [`generic::SealingKey`] has
-/// the methods.
+/// A key that seals each message under the next nonce of its sequence. It is [`generic::SealingKey`], which has the methods, over
+/// [`ExpandedKey`].
 ///
 /// # Examples
 ///
@@ -56,8 +56,11 @@ pub type LessSafeKey = generic::LessSafeKey<ExpandedKey>;
 /// ```
 pub type SealingKey<N> = generic::SealingKey<ExpandedKey, N>;
 
-/// A key that opens each message under the next nonce of its sequence, over the ciphers of this crate. [`generic::OpeningKey`] has
-/// the methods.
+/// A key that opens each message under the next nonce of its sequence. It is [`generic::OpeningKey`], which has the methods, over
+/// [`ExpandedKey`].
+///
+/// A nonce is used up even if the tag is wrong, so one message that is lost or inserted makes all later ones fail. For packets
+/// that anyone can send, take a [`LessSafeKey`] and [`nonce_of`](aead_ciphers::aead::nonce_of).
 ///
 /// # Examples
 ///

@@ -23,8 +23,9 @@ pub(crate) use ctr32::BATCH_LEN;
 pub(crate) use round_keys::joined;
 pub use round_keys::{RoundKeys, RoundPlanes, write_planes};
 
-/// The width of the planes on which a key encrypts batches of blocks. No result depends on it, so no contract says which width
-/// a key has, except that of `ExpandedKey::expand_with_width`: a key of another width would only be slower.
+/// The width of the planes on which a key encrypts batches of blocks. A plane holds one bit of every byte of these blocks. No
+/// result depends on the width, so no contract says which width a key has, except that of `ExpandedKey::expand_with_width`: a key
+/// of another width would only be slower.
 ///
 /// # Examples
 ///

@@ -2,8 +2,8 @@
 //! byte permutes, and GHASH by byte permutes.
 //!
 //! Read `aead` first, whose keys have calls of the keys of `aead_ciphers::aead`. `aes_gcm` has their expanded key, and
-//! `aes` and `gcm` implement the traits that `aead_ciphers::aes_gcm` seals and opens by. The examples are in plain Rust, over the
-//! package `deerlapse` of the folder `rust`. `docs/guide/RATTLE.md` has examples in Rattle.
+//! `aes` and `gcm` implement the traits that `aead_ciphers::aes_gcm` seals and opens by. Programs in Rust take the package
+//! `deerlapse`, whose paths the examples have.
 //!
 //! # Contracts
 //!

@@ -1,8 +1,7 @@
 //! Handshake messages of TLS 1.3 (RFC 8446 section 4), joined from the contents of the records that they are cut into, and the
 //! alerts that end a connection (section 6).
 //!
-//! Read `MessageReader` first. The examples are in plain Rust, over the package `deerlapse` of the folder `rust`.
-//! `docs/guide/RATTLE.md` has examples in Rattle.
+//! Read `MessageReader` first. Programs in Rust take the package `deerlapse`, whose paths the examples have.
 //!
 //! # Contracts
 //!

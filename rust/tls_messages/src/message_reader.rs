@@ -43,7 +43,8 @@ pub struct MessageReader<'b> {
 }
 
 impl<'b> MessageReader<'b> {
-    /// Creates a reader that takes messages of at most as many bytes as the buffer has.
+    /// Creates a reader that takes messages of at most as many bytes as the buffer has. The buffer must have at least
+    /// [`MESSAGE_HEADER_LEN`] bytes. In Rust nothing checks this, and a later call may panic.
     ///
     /// <details><summary>Contract</summary>
     ///

@@ -13,8 +13,10 @@ use core::ops::RangeFrom;
 
 /// An expanded key of XAES-256-GCM as plain data: what every message needs of the key, which is computed once.
 ///
-/// Sealing and opening require the fields to be as `expand` left them, and only read them, so many threads may use a key at
-/// once. The key that a call derives for its message, and its expansion, stay in the memory of the call.
+/// Sealing and opening require the fields to be as `expand` left them. In Rust nothing checks this, and a call with other fields
+/// may panic or return wrong results. The fields are only read, so many threads may use a key at once.
+///
+/// The key that a call derives for its message, and its expansion, may stay in the memory of the call.
 ///
 /// # Examples
 ///
@@ -76,8 +78,7 @@ impl ExpandedKey {
         }
     }
 
-    /// Overwrites this value with the expansion of a key, whose messages are encrypted on planes of this width. No byte of a key
-    /// that was there before stays.
+    /// Overwrites the whole of this value with the expansion of a key, whose messages are encrypted on planes of this width.
     ///
     /// <details><summary>Contract</summary>
     ///
@@ -192,7 +193,11 @@ impl ExpandedKey {
     ///
     /// # Errors
     ///
-    /// Fails with `Unspecified`, and leaves `out` unchanged, if the lengths exceed the limits of `seal`.
+    /// Fails with `Unspecified`, and leaves `out` unchanged, if the lengths exceed the limits of [`seal`](Self::seal).
+    ///
+    /// # Panics
+    ///
+    /// In Rust, panics if the lengths are within the limits and `out` and `plaintext` differ in length.
     ///
     /// <details><summary>Contract</summary>
     ///
@@ -230,7 +235,7 @@ impl ExpandedKey {
     /// Fails with `Unspecified`, and leaves `in_out` unchanged, in these cases, which are checked in this order:
     ///
     /// - `src.start` is greater than `in_out.len()`.
-    /// - The lengths exceed the limits of `seal`.
+    /// - The lengths exceed the limits of [`seal`](Self::seal).
     /// - `received_tag` is not the tag of the ciphertext and `aad`.
     ///
     /// <details><summary>Contract</summary>
@@ -258,8 +263,8 @@ impl ExpandedKey {
         key.open(nonce, aad, received_tag, in_out, src, &mut Work::new())
     }
 
-    /// Opens as `open` does, but the tag is the last 16 bytes of `in_out`, which are unchanged. Also fails if `in_out` is shorter
-    /// than 16 bytes. The tag is not read before the lengths are checked, so a length from C may be false.
+    /// Opens as [`open`](Self::open) does, but the tag is the last 16 bytes of `in_out`, which are unchanged. Also fails if
+    /// `in_out` is shorter than 16 bytes.
     ///
     /// <details><summary>Contract</summary>
     ///
@@ -289,8 +294,12 @@ impl ExpandedKey {
     ///
     /// # Errors
     ///
-    /// Fails with `Unspecified`, and leaves `out` unchanged, if the lengths exceed the limits of `seal`, or if `received_tag` is
-    /// not the tag of the ciphertext and `aad`.
+    /// Fails with `Unspecified`, and leaves `out` unchanged, if the lengths exceed the limits of [`seal`](Self::seal), or if
+    /// `received_tag` is not the tag of the ciphertext and `aad`.
+    ///
+    /// # Panics
+    ///
+    /// In Rust, panics if the tag is right and `out` and `ciphertext` differ in length.
     ///
     /// <details><summary>Contract</summary>
     ///

@@ -19,9 +19,10 @@ use core::ops::RangeFrom;
 /// twice under one key.
 ///
 /// What each message needs of the key is computed once, by `new`. Each call derives the AES-256-GCM key of its message, and expands
-/// it. Neither is overwritten when the call returns, since no contract can say what the memory of a call holds afterwards.
+/// it. No contract promises that either is overwritten when the call returns, since none can say what the memory of a call holds
+/// afterwards.
 ///
-/// As AES-GCM, XAES-256-GCM does not commit to the key: a ciphertext and tag can be made that two keys open.
+/// Like AES-GCM, XAES-256-GCM does not commit to the key: a ciphertext and tag can be made that two keys open.
 ///
 /// # Examples
 ///
@@ -73,7 +74,8 @@ impl Xaes256Gcm {
         Xaes256Gcm { expanded }
     }
 
-    /// Creates a key from its expanded key, whose messages may be encrypted on planes of either width.
+    /// Creates a key from its expanded key, which must be as [`ExpandedKey::expand`] left it. Its messages may be encrypted on
+    /// planes of either width.
     ///
     /// <details><summary>Contract</summary>
     ///
@@ -184,7 +186,7 @@ impl Xaes256Gcm {
     /// # Errors
     ///
     /// Fails with `Unspecified`, and leaves the bytes of `in_out` unchanged, if there is no room for the tag, which is reserved
-    /// first, or else if the lengths exceed the limits of `seal_in_place_separate_tag`.
+    /// first, or else if the lengths exceed the limits of [`seal_in_place_separate_tag`](Self::seal_in_place_separate_tag).
     ///
     /// <details><summary>Contract</summary>
     ///
@@ -215,7 +217,12 @@ impl Xaes256Gcm {
     ///
     /// # Errors
     ///
-    /// Fails with `Unspecified`, and leaves `out` unchanged, if the lengths exceed the limits of `seal_in_place_separate_tag`.
+    /// Fails with `Unspecified`, and leaves `out` unchanged, if the lengths exceed the limits of
+    /// [`seal_in_place_separate_tag`](Self::seal_in_place_separate_tag).
+    ///
+    /// # Panics
+    ///
+    /// In Rust, panics if the lengths are within the limits and `out` and `plaintext` differ in length.
     ///
     /// <details><summary>Contract</summary>
     ///
@@ -250,7 +257,7 @@ impl Xaes256Gcm {
     /// Fails with `Unspecified`, and leaves `in_out` unchanged, in these cases, which are checked in this order:
     ///
     /// - `ciphertext.start` is greater than `in_out.len()`.
-    /// - The lengths exceed the limits of `seal_in_place_separate_tag`.
+    /// - The lengths exceed the limits of [`seal_in_place_separate_tag`](Self::seal_in_place_separate_tag).
     /// - `tag` is not the tag of the ciphertext and `aad`.
     ///
     /// <details><summary>Contract</summary>
@@ -286,7 +293,7 @@ impl Xaes256Gcm {
     ///
     /// - `in_out` is shorter than 16 bytes.
     /// - `ciphertext_and_tag.start` is greater than `in_out.len() - 16`.
-    /// - The lengths exceed the limits of `seal_in_place_separate_tag`.
+    /// - The lengths exceed the limits of [`seal_in_place_separate_tag`](Self::seal_in_place_separate_tag).
     /// - The tag is not that of the ciphertext and `aad`.
     ///
     /// <details><summary>Contract</summary>
@@ -311,7 +318,8 @@ impl Xaes256Gcm {
             .open_within_to_front(nonce, aad, in_out, ciphertext_and_tag)
     }
 
-    /// Opens the whole of `in_out`, like `open_within_to_front` with the range `0..`.
+    /// Opens the whole of `in_out`, like [`open_within_to_front`](Self::open_within_to_front) with the range `0..`. If it returns
+    /// n, the plaintext is `in_out[..n]`.
     ///
     /// <details><summary>Contract</summary>
     ///
@@ -337,8 +345,12 @@ impl Xaes256Gcm {
     ///
     /// # Errors
     ///
-    /// Fails with `Unspecified`, and leaves `out` unchanged, if the lengths exceed the limits of `seal_in_place_separate_tag`, or if
-    /// `tag` is not the tag of the ciphertext and `aad`.
+    /// Fails with `Unspecified`, and leaves `out` unchanged, if the lengths exceed the limits of
+    /// [`seal_in_place_separate_tag`](Self::seal_in_place_separate_tag), or if `tag` is not the tag of the ciphertext and `aad`.
+    ///
+    /// # Panics
+    ///
+    /// In Rust, panics if the tag is right and `out` and `ciphertext` differ in length.
     ///
     /// <details><summary>Contract</summary>
     ///

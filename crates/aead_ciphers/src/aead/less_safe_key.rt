@@ -25,7 +25,8 @@ use std::ops::RangeFrom;
 /// An AEAD key whose calls take the nonce as an argument. It is the caller's responsibility that no nonce is used twice
 /// under one key (SP 800-38D section 8).
 ///
-/// Programs name it by an alias over a cipher, such as `aead_ciphers_wide::aead::LessSafeKey`, which has an example.
+/// Programs use the alias of the same name, which fixes `K` and has an example: `deerlapse::aead::LessSafeKey` in Rust,
+/// `aead_ciphers_wide::aead::LessSafeKey` in Rattle.
 #[derive(Drop)]
 pub struct LessSafeKey<K: GcmKey> {
     key: K,
@@ -72,7 +73,10 @@ impl<K: GcmKey> LessSafeKey<K> {
         made
     }
 
-    /// Creates a key from its expanded key, whose bytes must be as long as a key of `algorithm`.
+    /// Creates a key from `key`, which [`GcmKey::expand`] must have made of `algorithm.key_len()` bytes.
+    ///
+    /// In Rust nothing checks this. If it was made of another number of bytes, [`algorithm`](Self::algorithm) returns the
+    /// wrong algorithm. If it isn't as `expand` left it, a call may panic or return wrong results.
     pub fn from_expanded(algorithm: &'static Algorithm, key: K) -> Self
         requires expanded { K.is_expanded key }
         requires lengths { length (K.bytes_of key) ≡ key_len algorithm.now }
@@ -127,7 +131,8 @@ impl<K: GcmKey> LessSafeKey<K> {
     /// # Errors
     ///
     /// Fails with `Unspecified`, and leaves the bytes of `in_out` unchanged, if there is no room for the tag, which is
-    /// reserved first, or else if the lengths exceed the limits of `seal_in_place_separate_tag`.
+    /// reserved first, or else if the lengths exceed the limits of
+    /// [`seal_in_place_separate_tag`](Self::seal_in_place_separate_tag).
     pub fn seal_in_place_append_tag<B: InOut>(
         &self,
         nonce: Nonce,
@@ -184,7 +189,7 @@ impl<K: GcmKey> LessSafeKey<K> {
     /// # Errors
     ///
     /// Fails with `Unspecified`, and leaves the packet unchanged, if it is shorter than `header_len + 16` bytes, or
-    /// else if the lengths exceed the limits of `seal_in_place_separate_tag`.
+    /// else if the lengths exceed the limits of [`seal_in_place_separate_tag`](Self::seal_in_place_separate_tag).
     pub fn seal_packet_in_place(
         &self,
         nonce: Nonce,
@@ -216,7 +221,7 @@ impl<K: GcmKey> LessSafeKey<K> {
     /// Fails with `Unspecified`, and leaves `in_out` unchanged, in these cases, which are checked in this order:
     ///
     /// - `ciphertext.start` is greater than `in_out.len()`.
-    /// - The lengths exceed the limits of `seal_in_place_separate_tag`.
+    /// - The lengths exceed the limits of [`seal_in_place_separate_tag`](Self::seal_in_place_separate_tag).
     /// - `tag` is not the tag of the ciphertext and `aad`.
     pub fn open_in_place_separate_tag<'a>(
         &self,
@@ -236,8 +241,8 @@ impl<K: GcmKey> LessSafeKey<K> {
         lend_plaintext(in_out, opened)
     }
 
-    /// Like `open_in_place_separate_tag`, but returns the length of the plaintext in bytes. The plaintext is at the
-    /// front of `in_out`. ring has no such method.
+    /// Like [`open_in_place_separate_tag`](Self::open_in_place_separate_tag), but returns the length of the plaintext
+    /// in bytes. The plaintext is at the front of `in_out`. ring has no such method.
     pub fn open_in_place_separate_tag_to_front(
         &self,
         nonce: Nonce,
@@ -266,7 +271,7 @@ impl<K: GcmKey> LessSafeKey<K> {
     ///
     /// - `in_out` is shorter than 16 bytes.
     /// - `ciphertext_and_tag.start` is greater than `in_out.len() - 16`.
-    /// - The lengths exceed the limits of `seal_in_place_separate_tag`.
+    /// - The lengths exceed the limits of [`seal_in_place_separate_tag`](Self::seal_in_place_separate_tag).
     /// - The tag is not that of the ciphertext and `aad`.
     pub fn open_within<'a>(
         &self,
@@ -286,8 +291,8 @@ impl<K: GcmKey> LessSafeKey<K> {
         lend_plaintext(in_out, opened)
     }
 
-    /// Like `open_within`, but returns the length of the plaintext in bytes. The plaintext is at the front of `in_out`.
-    /// ring has no such method.
+    /// Like [`open_within`](Self::open_within), but returns the length of the plaintext in bytes. The plaintext is at
+    /// the front of `in_out`. ring has no such method.
     pub fn open_within_to_front(
         &self,
         nonce: Nonce,
@@ -314,7 +319,7 @@ impl<K: GcmKey> LessSafeKey<K> {
         )
     }
 
-    /// Opens the whole of `in_out`, like `open_within` with the range `0..`.
+    /// Opens the whole of `in_out`, like [`open_within`](Self::open_within) with the range `0..`.
     pub fn open_in_place<'a>(
         &self,
         nonce: Nonce,
@@ -331,8 +336,8 @@ impl<K: GcmKey> LessSafeKey<K> {
         lend_plaintext(in_out, opened)
     }
 
-    /// Like `open_in_place`, but returns the length of the plaintext in bytes. The plaintext is at the front of
-    /// `in_out`. ring has no such method.
+    /// Like [`open_in_place`](Self::open_in_place), but returns the length of the plaintext in bytes. The plaintext is
+    /// at the front of `in_out`. ring has no such method.
     pub fn open_in_place_to_front(
         &self,
         nonce: Nonce,
@@ -353,7 +358,12 @@ impl<K: GcmKey> LessSafeKey<K> {
     /// # Errors
     ///
     /// Fails with `Unspecified`, and leaves `out` unchanged, if the lengths exceed the limits of
-    /// `seal_in_place_separate_tag`, or if `tag` is not the tag of the ciphertext and `aad`.
+    /// [`seal_in_place_separate_tag`](Self::seal_in_place_separate_tag), or if `tag` is not the tag of the ciphertext
+    /// and `aad`.
+    ///
+    /// # Panics
+    ///
+    /// In Rust, panics if the tag is right and `out` and `ciphertext` differ in length.
     pub fn open_to(
         &self,
         nonce: Nonce,
@@ -373,13 +383,14 @@ impl<K: GcmKey> LessSafeKey<K> {
     }
 
     /// Opens a packet in place, and returns the length of the plaintext in bytes (SP 800-38D algorithm 5). The packet is
-    /// one that `seal_packet_in_place` seals: the plaintext replaces the ciphertext, and header and tag are unchanged.
+    /// one that [`seal_packet_in_place`](Self::seal_packet_in_place) seals: the plaintext replaces the ciphertext, and
+    /// header and tag are unchanged.
     ///
     /// # Errors
     ///
     /// Fails with `Unspecified`, and leaves the packet unchanged, if it is shorter than `header_len + 16` bytes, if the
-    /// lengths exceed the limits of `seal_in_place_separate_tag`, or if the tag is not that of the ciphertext and the
-    /// header.
+    /// lengths exceed the limits of [`seal_in_place_separate_tag`](Self::seal_in_place_separate_tag), or if the tag is
+    /// not that of the ciphertext and the header.
     pub fn open_packet_in_place_after_header(
         &self,
         nonce: Nonce,

@@ -6,9 +6,11 @@ ghost use Rattle.aead_ciphers_base.specs.Work.{Adds, CanAdd, HasRoom};
 use std::marker::Model;
 
 /// Two 64-bit tallies: of cipher blocks whose output was used, and of field products (SP 800-38D
-/// section 6.3).
+/// section 6.3). They let contracts state how much a call computes. A caller that doesn't need the
+/// numbers passes `&mut Work::new()`.
 ///
-/// A call that counts requires that the sums fit in 64 bits. `has_room` suffices for one seal or open.
+/// Each tally must stay below 2^64. If `has_room` returns `true`, both do in the next call that seals
+/// or opens. In Rust nothing checks this, and a larger sum panics or wraps around.
 ///
 /// # Examples
 ///

@@ -63,7 +63,7 @@ impl<'o, T> Overlapping<'o, T> {
     }
 
     /// Creates a buffer whose input starts at `start`, without a check. `start` must be at most the length
-    /// of the slice.
+    /// of the slice. In Rust a call of the buffer may otherwise panic.
     pub fn within(in_out: &'o mut [T], start: usize) -> Self
         requires { start ≤ length in_out.old }
         ensures same_reference { result.in_out.ghost_name ≡ in_out.entry.ghost_name }

@@ -18,6 +18,8 @@ use aead_ciphers_base::values::{Aad, NONCE_LEN, Nonce, Tag};
 
 /// What is kept of a message that is sealed in pieces, as plain data without padding. The keystream in `batch` is secret.
 ///
+/// Change no field between two calls: the tag may then be wrong, and in Rust a call may panic.
+///
 /// # Examples
 ///
 /// ```

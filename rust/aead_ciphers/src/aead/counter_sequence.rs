@@ -25,7 +25,11 @@ pub struct CounterSequence {
 }
 
 impl CounterSequence {
-    /// Creates a sequence of `count` nonces, whose numbers count up from `first`. None of them is used yet.
+    /// Creates a sequence of `count` nonces, whose numbers count up from `first`. The last argument of
+    /// [`XoredSequence::new`](crate::aead::XoredSequence::new) is a limit instead of a count.
+    ///
+    /// It is the caller's responsibility that none of them seals another message under the same key. After a restart,
+    /// take a new key, or a `first` above all numbers that were used.
     ///
     /// # Errors
     ///

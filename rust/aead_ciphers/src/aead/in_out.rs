@@ -10,6 +10,9 @@ use alloc::vec::Vec;
 /// A growable buffer of bytes that is sealed in place: it holds the plaintext before the call, and the ciphertext
 /// followed by the 16-byte tag after it.
 ///
+/// After `grow_by_tag` has succeeded, `as_mut_bytes` must return 16 bytes more than before. In Rust nothing checks
+/// this, and a call that seals may panic otherwise.
+///
 /// # Examples
 ///
 /// A packet of at most 64 bytes, which needs no allocator:
@@ -62,6 +65,7 @@ use alloc::vec::Vec;
 /// ghost may_refuse: { Self → Type 0 };
 /// // What holds of the buffer whenever `grow_by_tag` succeeds.
 /// ghost may_grant: { Self → Type 0 };
+/// // `with_bytes x bs` holds the bytes `bs`, if these are as many as those of `x`.
 /// ghost bytes_with_bytes: { (x : Self) (bs : List ℕ) → length bs ≡ length (bytes x) → bytes (with_bytes x bs) ≡ bs };
 /// ```
 ///
@@ -127,6 +131,8 @@ impl InOut for Vec<u8> {
         Ok(())
     }
 
+    /// Removes the last 16 bytes. The capacity is unchanged.
+    ///
     /// <details><summary>Contract</summary>
     ///
     /// ```text

@@ -2,8 +2,10 @@
 
 use crate::aead::{Nonce, Unspecified};
 
-/// A sequence of nonces for one key, no two of them equal (SP 800-38D section 8). It may start open or closed, and
-/// stays closed once it is closed.
+/// A sequence of nonces for one key, no two of them equal (SP 800-38D section 8). Once `advance` has failed, the
+/// sequence is *closed*, and every later call fails too. It may be closed from the start.
+///
+/// In Rust nothing checks an implementation: if it returns a nonce twice, the key uses it twice.
 ///
 /// # Examples
 ///
@@ -53,8 +55,7 @@ pub trait NonceSequence {
     ///
     /// # Errors
     ///
-    /// Fails with `Unspecified` if the sequence returns no more nonces. It is then closed, and every later call fails
-    /// too.
+    /// Fails with `Unspecified` if the sequence returns no more nonces. It is then closed.
     ///
     /// <details><summary>Contract</summary>
     ///

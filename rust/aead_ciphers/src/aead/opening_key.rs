@@ -9,7 +9,11 @@ use core::ops::RangeFrom;
 
 /// An AEAD key for opening that is bound to a nonce sequence: each call uses the next nonce. It cannot be cloned.
 ///
-/// Programs name it by an alias over a cipher, such as `aead_ciphers_wide::aead::OpeningKey`, which has an example.
+/// A nonce is used up even if the tag is wrong, so one message that is lost or inserted makes all later ones fail. For
+/// packets that anyone can send, take a [`LessSafeKey`] and [`nonce_of`](crate::aead::nonce_of).
+///
+/// Programs use the alias of the same name, which fixes `K` and has an example: `deerlapse::aead::OpeningKey` in Rust,
+/// `aead_ciphers_wide::aead::OpeningKey` in Rattle.
 pub struct OpeningKey<K: GcmKey, N> {
     key: LessSafeKey<K>,
     nonce_sequence: N,
@@ -36,8 +40,8 @@ impl<K: GcmKey, N: NonceSequence> BoundKey<N> for OpeningKey<K, N> {
 }
 
 impl<K: GcmKey, N: NonceSequence> OpeningKey<K, N> {
-    /// Like `open_within`, but returns the length of the plaintext in bytes. The plaintext is at the front of `in_out`.
-    /// ring has no such method.
+    /// Like [`open_within`](Self::open_within), but returns the length of the plaintext in bytes. The plaintext is at
+    /// the front of `in_out`. ring has no such method.
     ///
     /// <details><summary>Contract</summary>
     ///
@@ -60,8 +64,8 @@ impl<K: GcmKey, N: NonceSequence> OpeningKey<K, N> {
             .open_within_to_front(nonce, aad, in_out, ciphertext_and_tag)
     }
 
-    /// Like `open_in_place`, but returns the length of the plaintext in bytes. The plaintext is at the front of
-    /// `in_out`. ring has no such method.
+    /// Like [`open_in_place`](Self::open_in_place), but returns the length of the plaintext in bytes. The plaintext is
+    /// at the front of `in_out`. ring has no such method.
     ///
     /// <details><summary>Contract</summary>
     ///
@@ -92,7 +96,7 @@ impl<K: GcmKey, N: NonceSequence> OpeningKey<K, N> {
     /// Fails with `Unspecified`, and leaves `in_out` unchanged, if the sequence returns no nonce, which is checked
     /// first. Otherwise the nonce is consumed, and the call fails in the same way if `in_out` is shorter than 16 bytes,
     /// if `ciphertext_and_tag.start` is greater than `in_out.len() - 16`, if the lengths exceed the limits of
-    /// `LessSafeKey::seal_in_place_separate_tag`, or if the tag is not that of the ciphertext and `aad`.
+    /// [`LessSafeKey::seal_in_place_separate_tag`], or if the tag is not that of the ciphertext and `aad`.
     ///
     /// <details><summary>Contract</summary>
     ///
@@ -116,7 +120,7 @@ impl<K: GcmKey, N: NonceSequence> OpeningKey<K, N> {
         lend_plaintext(in_out, opened)
     }
 
-    /// Opens the whole of `in_out` under the next nonce, like `open_within` with the range `0..`.
+    /// Opens the whole of `in_out` under the next nonce, like [`open_within`](Self::open_within) with the range `0..`.
     ///
     /// <details><summary>Contract</summary>
     ///

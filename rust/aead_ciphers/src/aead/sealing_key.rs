@@ -7,7 +7,8 @@ use core::fmt;
 
 /// An AEAD key for sealing that is bound to a nonce sequence: each call uses the next nonce. It cannot be cloned.
 ///
-/// Programs name it by an alias over a cipher, such as `aead_ciphers_wide::aead::SealingKey`, which has an example.
+/// Programs use the alias of the same name, which fixes `K` and has an example: `deerlapse::aead::SealingKey` in Rust,
+/// `aead_ciphers_wide::aead::SealingKey` in Rattle.
 pub struct SealingKey<K: GcmKey, N> {
     key: LessSafeKey<K>,
     nonce_sequence: N,
@@ -82,11 +83,14 @@ impl<K: GcmKey, N: NonceSequence> SealingKey<K, N> {
     ///
     /// `in_out` holds the plaintext before the call, and the equally long ciphertext after it.
     ///
+    /// `OpeningKey` has no call for a separate tag: append the tag to the ciphertext before it is opened, or open with
+    /// [`LessSafeKey::open_in_place_separate_tag`].
+    ///
     /// # Errors
     ///
     /// Fails with `Unspecified`, and leaves `in_out` unchanged, if the sequence returns no nonce, which is checked
-    /// first, or if the lengths exceed the limits of `seal_in_place_append_tag`. In the latter case the nonce is
-    /// consumed.
+    /// first, or if the lengths exceed the limits of [`seal_in_place_append_tag`](Self::seal_in_place_append_tag). In
+    /// the latter case the nonce is consumed.
     ///
     /// <details><summary>Contract</summary>
     ///

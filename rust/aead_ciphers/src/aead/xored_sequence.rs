@@ -31,8 +31,11 @@ pub struct XoredSequence {
 }
 
 impl XoredSequence {
-    /// Creates a sequence of the nonces whose numbers count up from `first` and are less than `limit`. None of them is
-    /// used yet.
+    /// Creates a sequence of the nonces whose numbers count up from `first` and are less than `limit`. The last
+    /// argument of [`CounterSequence::new`](crate::aead::CounterSequence::new) is a count instead of a limit.
+    ///
+    /// It is the caller's responsibility that none of them seals another message under the same key. After a restart,
+    /// take a new key, or a `first` above all numbers that were used.
     ///
     /// # Errors
     ///

@@ -9,7 +9,10 @@ use core::ops::RangeFrom;
 /// step 1), in the form that a cipher and a hash read. The keys of `aead` and `aes_gcm::Key` are generic over it.
 ///
 /// It is plain data without an invariant, so that it can be expanded in place. Sealing and opening require it to be as
-/// `expand` left it.
+/// `expand` left it. In Rust nothing checks this, and a call with another value may panic or return wrong results.
+///
+/// Calls that take a `work` add their cipher blocks and field products to it. A caller that doesn't need the numbers
+/// passes `&mut Work::new()`.
 ///
 /// <details><summary>Ghost items</summary>
 ///
@@ -96,7 +99,7 @@ pub trait GcmKey: Clone {
     /// Fails with `Unspecified`, and leaves `in_out` unchanged, in these cases, which are checked in this order:
     ///
     /// - `src.start` is greater than `in_out.len()`.
-    /// - The lengths exceed the limits of `seal`.
+    /// - The lengths exceed the limits of [`seal`](Self::seal).
     /// - `received_tag` is not the tag of the ciphertext and `aad`.
     ///
     /// <details><summary>Contract</summary>
@@ -128,8 +131,12 @@ pub trait GcmKey: Clone {
     ///
     /// # Errors
     ///
-    /// Fails with `Unspecified`, and leaves `out` unchanged, if the lengths exceed the limits of `seal`, or if
-    /// `received_tag` is not the tag of the ciphertext and `aad`.
+    /// Fails with `Unspecified`, and leaves `out` unchanged, if the lengths exceed the limits of [`seal`](Self::seal),
+    /// or if `received_tag` is not the tag of the ciphertext and `aad`.
+    ///
+    /// # Panics
+    ///
+    /// In Rust, panics if the tag is right and `out` and `ciphertext` differ in length.
     ///
     /// <details><summary>Contract</summary>
     ///
