@@ -129,11 +129,12 @@ class Pages:
                 self.want(*other)
 
     def written(self, crate):
-        """Yields the sources of a crate that have the pages, each with its name."""
+        """Yields the sources of a crate that have the pages, each with its name and what it is made of."""
         files = sorted(file for of, file in self.wanted if of == crate)
-        yield "specs.rs", ROOT.replace("{crate}", crate) + "".join(f"pub mod {module_of(file)};\n" for file in files)
+        folder = f"crates/{crate}/specs"
+        yield "specs.rs", ROOT.replace("{crate}", crate) + "".join(f"pub mod {module_of(file)};\n" for file in files), folder
         for file in files:
-            yield f"specs/{module_of(file)}.rs", self.source(crate, file)
+            yield f"specs/{module_of(file)}.rs", self.source(crate, file), f"{folder}/{file}.antt"
 
     def source(self, crate, file):
         """Returns the source that has the page of a file: its text, with an anchor for each name that it defines."""

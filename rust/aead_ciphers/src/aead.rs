@@ -1,3 +1,4 @@
+// Written by tools/rust from crates/aead_ciphers/src/aead.rt. Don't edit.
 //! Authenticated encryption with additional authenticated data (AEAD), by AES-GCM (SP 800-38D).
 //!
 //! Read `LessSafeKey` first, whose calls take the nonce. `SealingKey` and `OpeningKey` take theirs from a

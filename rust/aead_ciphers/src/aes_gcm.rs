@@ -1,3 +1,4 @@
+// Written by tools/rust from crates/aead_ciphers/src/aes_gcm.rt. Don't edit.
 //! AES-GCM in place, with 12-byte nonces and 16-byte tags (SP 800-38D section 7).
 //!
 //! `aead` is the interface for callers. The functions here also count their cipher blocks and field products in a

@@ -1,3 +1,4 @@
+// Written by tools/rust from crates/aead_ciphers/src/gcm.rt. Don't edit.
 //! GHASH (SP 800-38D section 6.4) over the blocks of the AAD and the ciphertext. `Context` hashes a whole message.
 
 mod context;

@@ -1,3 +1,4 @@
+// Written by tools/rust from crates/aead_ciphers/src/lib.rt. Don't edit.
 //! AES-GCM (SP 800-38D) and QUIC header protection (RFC 9001 section 5.4) under ring's names.
 //!
 //! Read `aead` first, which is the interface for callers. `aes_gcm` and `gcm` are the layers below it. Programs in Rust

@@ -1,3 +1,4 @@
+// Written by tools/rust from crates/aead_ciphers/src/session.rt. Don't edit.
 //! Lists of jobs that are run, in order, with a sealing and an opening key.
 //!
 //! A job seals or opens one message. [`run`] does what a loop over the calls of the keys does, and its contract is

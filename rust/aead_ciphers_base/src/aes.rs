@@ -1,3 +1,4 @@
+// Written by tools/rust from crates/aead_ciphers_base/src/aes.rt. Don't edit.
 //! AES (FIPS 197), bit-sliced over four blocks, and its counter mode (SP 800-38D section 6.5).
 //!
 //! Eight planes of 64 bits hold four blocks: bit `16 * block + byte` of plane `b` is bit `b` of that

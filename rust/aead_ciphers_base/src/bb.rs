@@ -1,3 +1,4 @@
+// Written by tools/rust from crates/aead_ciphers_base/src/bb.rt. Don't edit.
 //! Building blocks of the ciphers: comparing two slices of bytes, and XORing blocks and slices.
 
 use crate::error::Unspecified;

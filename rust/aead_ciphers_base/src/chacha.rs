@@ -1,3 +1,4 @@
+// Written by tools/rust from crates/aead_ciphers_base/src/chacha.rt. Don't edit.
 //! The stream cipher ChaCha20 (RFC 8439 sections 2.1 to 2.4). Read `Key::encrypt` first.
 //!
 //! It doesn't authenticate: whoever changes a bit of the ciphertext changes that bit of the plaintext.

@@ -1,3 +1,4 @@
+// Written by tools/rust from crates/aead_ciphers_base/src/error.rt. Don't edit.
 //! The errors that calls fail with: `Unspecified`, and three that hold an index or a length.
 
 mod input_too_long;

@@ -1,3 +1,4 @@
+// Written by tools/rust from crates/aead_ciphers_base/src/lib.rt. Don't edit.
 //! The primitives below AES-GCM and QUIC header protection: bit-sliced AES, ChaCha20, the buffers that
 //! both work on, and the plain values that calls take and return. Read `values` and `overlapping`
 //! first. Programs in Rust take the package `deerlapse`, whose paths the examples have, except for

@@ -1,3 +1,4 @@
+// Written by tools/rust from crates/aead_ciphers_base/src/overlapping.rt. Don't edit.
 //! Buffers whose output overlaps their input. Read `Overlapping` first.
 
 mod array;

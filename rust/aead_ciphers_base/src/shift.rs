@@ -1,3 +1,4 @@
+// Written by tools/rust from crates/aead_ciphers_base/src/shift.rt. Don't edit.
 //! `shift_full_blocks`, which maps each block of an overlapping buffer by a closure, and writes the results at the front of its slice.
 
 use crate::overlapping::{Chunk, Overlapping, chunk_at};

@@ -1,3 +1,4 @@
+// Written by tools/rust from crates/aead_ciphers_base/src/values.rt. Don't edit.
 //! The plain values that calls take and return: nonces, additional authenticated data (AAD), tags and
 //! samples.
 

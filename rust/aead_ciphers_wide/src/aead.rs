@@ -1,3 +1,4 @@
+// Written by tools/rust from crates/aead_ciphers_wide/src/aead.rt. Don't edit.
 //! The keys of `aead_ciphers::aead` over the ciphers of this crate.
 
 pub mod quic;

@@ -1,3 +1,4 @@
+// Written by tools/rust from crates/aead_ciphers_wide/src/aes.rt. Don't edit.
 //! AES (FIPS 197), of eight or sixteen blocks on bit planes, and of one block or two by byte permutes, and its counter mode
 //! (SP 800-38D section 6.5).
 //!

@@ -1,3 +1,4 @@
+// Written by tools/rust from crates/aead_ciphers_wide/src/aes_gcm.rt. Don't edit.
 //! An expanded AES-GCM key as plain data, for memory that the library does not own: a C struct, or a table of keys.
 
 mod pieces;

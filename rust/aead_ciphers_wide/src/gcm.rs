@@ -1,3 +1,4 @@
+// Written by tools/rust from crates/aead_ciphers_wide/src/gcm.rt. Don't edit.
 //! GHASH (SP 800-38D section 6.4) by byte permutes, over tables of 512 bytes. Many blocks are hashed two at a time:
 //! (X + A) H + B, times H, is the sum of X + A times H^2 and of B times H.
 

@@ -1,3 +1,4 @@
+// Written by tools/rust from crates/aead_ciphers_wide/src/lanes.rt. Don't edit.
 //! The trait `Lanes`, of words that consist of lanes of 64 bits, each of which is shifted by itself.
 
 use aead_ciphers_base::aes::Plane;

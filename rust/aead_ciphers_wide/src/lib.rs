@@ -1,3 +1,4 @@
+// Written by tools/rust from crates/aead_ciphers_wide/src/lib.rt. Don't edit.
 //! AES-GCM (SP 800-38D) and header masks (RFC 9001 section 5.4.3): AES on eight or sixteen blocks a pass, and on few blocks by
 //! byte permutes, and GHASH by byte permutes.
 //!

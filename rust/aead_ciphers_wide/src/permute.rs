@@ -1,3 +1,4 @@
+// Written by tools/rust from crates/aead_ciphers_wide/src/permute.rt. Don't edit.
 //! `look_up`, a byte permute: it replaces each byte of a vector by the byte of a table of 16 bytes to which it points.
 
 use simd::u8x16;

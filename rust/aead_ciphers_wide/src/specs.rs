@@ -1,3 +1,4 @@
+// Written by tools/rust from crates/aead_ciphers_wide/specs. Don't edit.
 //! The definitions that the contracts of this crate cite, from the files of `crates/aead_ciphers_wide/specs`.
 //!
 //! A definition is its type and then its equations, of which the first that fits the arguments counts. `f x y` is f of x and y,

@@ -1,3 +1,4 @@
+// Written by tools/rust from crates/aead_ciphers_wide/src/word.rt. Don't edit.
 //! `Word`, a number of 128 bits in a vector: a plane of eight AES blocks, or a block of GHASH.
 
 use crate::lanes::Lanes;

@@ -1,3 +1,4 @@
+// Written by tools/rust from crates/tls_messages/src/alert.rt. Don't edit.
 //! The error alerts of TLS 1.3, with their values (RFC 8446 section 6.2).
 
 /// An error alert of RFC 8446 section 6.2, which an endpoint sends before it closes the connection. `as u8` gives its value. The

@@ -1,3 +1,4 @@
+// Written by tools/rust from crates/tls_messages/src/lib.rt. Don't edit.
 //! Handshake messages of TLS 1.3 (RFC 8446 section 4), joined from the contents of the records that they are cut into, and the
 //! alerts that end a connection (section 6).
 //!

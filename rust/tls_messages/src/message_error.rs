@@ -1,3 +1,4 @@
+// Written by tools/rust from crates/tls_messages/src/message_error.rt. Don't edit.
 //! The errors of joining messages, with the alert or the code in QUIC that each calls for.
 
 use crate::alert::AlertDescription;

@@ -1,3 +1,4 @@
+// Written by tools/rust from crates/tls_messages/src/message_reader.rt. Don't edit.
 //! Joining handshake messages from the contents of the records that they are cut into (RFC 8446 section 5.1).
 
 use crate::message_error::MessageError;

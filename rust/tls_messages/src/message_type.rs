@@ -1,3 +1,4 @@
+// Written by tools/rust from crates/tls_messages/src/message_type.rt. Don't edit.
 //! The types of handshake messages (RFC 8446 section 4).
 
 pub const CLIENT_HELLO: u8 = 1;

@@ -1,3 +1,4 @@
+// Written by tools/rust from crates/tls_messages/src/stage.rt. Don't edit.
 //! The handshake messages that an endpoint may receive and send at each stage of a connection (RFC 8446 section 4.6).
 
 use crate::MESSAGE_HEADER_LEN;

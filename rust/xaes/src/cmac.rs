@@ -1,3 +1,4 @@
+// Written by tools/rust from crates/xaes/src/cmac.rt. Don't edit.
 //! The derivation of keys by CMAC (SP 800-38B) over AES-256 in counter mode (SP 800-108r1).
 
 use aead_ciphers_base::aes::{AES_256_KEY_LEN, BLOCK_LEN, Block, EncryptBlock, Work, ZERO_BLOCK};

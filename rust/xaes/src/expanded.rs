@@ -1,3 +1,4 @@
+// Written by tools/rust from crates/xaes/src/expanded.rt. Don't edit.
 //! An expanded key of XAES-256-GCM as plain data, for memory that the library does not own: a C struct, or a table of keys.
 
 use crate::cmac::{Cmac, first_subkey};

@@ -1,3 +1,4 @@
+// Written by tools/rust from crates/xaes/src/key.rt. Don't edit.
 //! The key of XAES-256-GCM, whose calls take the nonce as an argument.
 
 use crate::cmac::Context;

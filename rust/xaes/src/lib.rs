@@ -1,3 +1,4 @@
+// Written by tools/rust from crates/xaes/src/lib.rt. Don't edit.
 //! XAES-256-GCM (a specification of C2SP, <https://c2sp.org/XAES-256-GCM>): AES-256-GCM with nonces of 24 bytes, which are long
 //! enough to be drawn at random for each message.
 //!

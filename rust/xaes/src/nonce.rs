@@ -1,3 +1,4 @@
+// Written by tools/rust from crates/xaes/src/nonce.rt. Don't edit.
 //! The nonces of XAES-256-GCM, of 24 bytes.
 
 use crate::cmac::{CONTEXT_LEN, Context};

@@ -1,3 +1,4 @@
+// Written by tools/rust from crates/aead_ciphers/src/aead/algorithm.rt. Don't edit.
 //! The AEAD algorithms, and the lengths of their keys, nonces and tags.
 
 use aead_ciphers_base::aes::{AES_128_KEY_LEN, AES_256_KEY_LEN, KeyBytes};

@@ -1,3 +1,4 @@
+// Written by tools/rust from crates/aead_ciphers/src/aead/bound_key.rt. Don't edit.
 //! The trait of keys that are bound to a nonce sequence: `SealingKey` and `OpeningKey`.
 
 use crate::aead::{Algorithm, NonceSequence, UnboundKey};

@@ -1,3 +1,4 @@
+// Written by tools/rust from crates/aead_ciphers/src/aead/counter_sequence.rt. Don't edit.
 //! The nonce sequence of a fixed prefix and a counter.
 
 use crate::aead::{NONCE_LEN, Nonce, NonceSequence, Unspecified};

@@ -1,3 +1,4 @@
+// Written by tools/rust from crates/aead_ciphers/src/aead/in_out.rt. Don't edit.
 //! Buffers that sealing appends a tag to.
 
 use aead_ciphers_base::error::Unspecified;

@@ -1,3 +1,4 @@
+// Written by tools/rust from crates/aead_ciphers/src/aead/lend.rt. Don't edit.
 //! Mutable slices of a buffer that was opened: the plaintext, and the bytes after it.
 
 use aead_ciphers_base::error::Unspecified;

@@ -1,3 +1,4 @@
+// Written by tools/rust from crates/aead_ciphers/src/aead/less_safe_key.rt. Don't edit.
 //! The AEAD key whose calls take the nonce as an argument.
 
 use crate::aead::algorithm::Algorithm;

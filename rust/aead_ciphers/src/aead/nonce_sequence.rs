@@ -1,3 +1,4 @@
+// Written by tools/rust from crates/aead_ciphers/src/aead/nonce_sequence.rt. Don't edit.
 //! The trait `NonceSequence`, from which a sealing or opening key takes the nonce of each message.
 
 use crate::aead::{Nonce, Unspecified};

@@ -1,3 +1,4 @@
+// Written by tools/rust from crates/aead_ciphers/src/aead/opening_key.rt. Don't edit.
 //! The AEAD key that opens messages under the nonces of a sequence.
 
 use crate::aead::lend::lend_plaintext;

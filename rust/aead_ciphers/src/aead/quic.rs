@@ -1,3 +1,4 @@
+// Written by tools/rust from crates/aead_ciphers/src/aead/quic.rt. Don't edit.
 //! QUIC header protection (RFC 9001 section 5.4): masks for the headers of packets.
 
 use aead_ciphers_base::aes::{AES_128_KEY_LEN, AES_256_KEY_LEN, KeyBytes};

@@ -1,3 +1,4 @@
+// Written by tools/rust from crates/aead_ciphers/src/aead/sealing_key.rt. Don't edit.
 //! The AEAD key that seals messages under the nonces of a sequence.
 
 use crate::aead::less_safe_key::LessSafeKey;

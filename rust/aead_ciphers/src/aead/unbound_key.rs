@@ -1,3 +1,4 @@
+// Written by tools/rust from crates/aead_ciphers/src/aead/unbound_key.rt. Don't edit.
 //! AEAD keys without a role, from which the other AEAD keys are made.
 
 use crate::aead::algorithm::Algorithm;

@@ -1,3 +1,4 @@
+// Written by tools/rust from crates/aead_ciphers/src/aead/xored_sequence.rt. Don't edit.
 //! The nonce sequence of TLS 1.3 and QUIC: an IV XORed with a counter.
 
 use crate::aead::{NONCE_LEN, Nonce, NonceSequence, Unspecified};

@@ -1,3 +1,4 @@
+// Written by tools/rust from crates/aead_ciphers/src/aes_gcm/counter_mode.rt. Don't edit.
 //! Counter mode of a text of any length (GCTR, SP 800-38D section 6.5).
 
 use aead_ciphers_base::aes::{BLOCK_LEN, Counter, EncryptCtr32, Overlapping, Work};

@@ -1,3 +1,4 @@
+// Written by tools/rust from crates/aead_ciphers/src/aes_gcm/expanded.rt. Don't edit.
 //! The expanded AES-GCM key of these libraries: round keys for `aes`, and multiples of the hash subkey for `gcm`.
 
 use super::{GcmKey, opening, sealing};

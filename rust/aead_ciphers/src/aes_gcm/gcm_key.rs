@@ -1,3 +1,4 @@
+// Written by tools/rust from crates/aead_ciphers/src/aes_gcm/gcm_key.rt. Don't edit.
 //! The trait of expanded AES-GCM keys, over which the keys of `aead` and `aes_gcm` are generic.
 
 use aead_ciphers_base::aes::{KeyBytes, Work};

@@ -1,3 +1,4 @@
+// Written by tools/rust from crates/aead_ciphers/src/aes_gcm/hash.rt. Don't edit.
 //! The tag of a message, from the hash of its AAD and ciphertext (SP 800-38D section 7.1, steps 4 to 6).
 
 use crate::gcm::{Context, UpdateBlock};

@@ -1,3 +1,4 @@
+// Written by tools/rust from crates/aead_ciphers/src/aes_gcm/key.rt. Don't edit.
 //! The AES-GCM key of `aes_gcm::seal` and `aes_gcm::open`, which count their cipher blocks and field products.
 
 use crate::aes_gcm::GcmKey;

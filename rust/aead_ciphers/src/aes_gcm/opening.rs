@@ -1,3 +1,4 @@
+// Written by tools/rust from crates/aead_ciphers/src/aes_gcm/opening.rt. Don't edit.
 //! Opening AES-GCM messages with any cipher and hash (SP 800-38D section 7.2).
 
 use super::counter_mode::encrypt_within;

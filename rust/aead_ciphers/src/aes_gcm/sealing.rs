@@ -1,3 +1,4 @@
+// Written by tools/rust from crates/aead_ciphers/src/aes_gcm/sealing.rt. Don't edit.
 //! Sealing AES-GCM messages with any cipher and hash (SP 800-38D section 7.1).
 
 use super::counter_mode::{BATCH_LEN, CHUNK_LEN, FEW_LEN, encrypt_blocks, encrypt_rest, whole_len};

@@ -1,3 +1,4 @@
+// Written by tools/rust from crates/aead_ciphers/src/gcm/context.rt. Don't edit.
 //! The hash of the AAD, the ciphertext and their lengths (SP 800-38D section 7.1).
 
 use super::{UpdateBlock, UpdateBlocks, Xi, absorb, fits, lengths};

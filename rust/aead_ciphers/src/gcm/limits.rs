@@ -1,3 +1,4 @@
+// Written by tools/rust from crates/aead_ciphers/src/gcm/limits.rt. Don't edit.
 //! The limits on the lengths of AAD and plaintext (SP 800-38D section 5.2.1.1).
 
 /// The maximum length of AAD, in bytes (SP 800-38D section 5.2.1.1).

@@ -1,3 +1,4 @@
+// Written by tools/rust from crates/aead_ciphers/src/gcm/padding.rt. Don't edit.
 //! Bytes that are padded to whole blocks, and the block of their lengths (SP 800-38D section 7.1 steps 4 and 5).
 
 use super::{UpdateBlocks, Xi};

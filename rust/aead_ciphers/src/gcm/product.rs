@@ -1,3 +1,4 @@
+// Written by tools/rust from crates/aead_ciphers/src/gcm/product.rt. Don't edit.
 //! The product of two blocks (SP 800-38D section 6.3), by a table of the multiples of one of them.
 
 use simd::u32x4;

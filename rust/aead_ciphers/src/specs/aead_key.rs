@@ -1,3 +1,4 @@
+// Written by tools/rust from crates/aead_ciphers/specs/AeadKey.antt. Don't edit.
 //! What a contract sees of a key: its algorithm and its bytes.
 //!
 //! The definitions of `crates/aead_ciphers/specs/AeadKey.antt`, which use those of [`algorithm`](crate::specs::algorithm).

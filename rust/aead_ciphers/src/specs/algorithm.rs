@@ -1,3 +1,4 @@
+// Written by tools/rust from crates/aead_ciphers/specs/Algorithm.antt. Don't edit.
 //! What a contract sees of an `Algorithm`.
 //!
 //! The definitions of `crates/aead_ciphers/specs/Algorithm.antt`.

@@ -1,3 +1,4 @@
+// Written by tools/rust from crates/aead_ciphers/specs/BoundCalls.antt. Don't edit.
 //! What one call of a bound key does to the key, its sequence and the buffer, and what the sequence says of its nonce.
 //!
 //! The definitions of `crates/aead_ciphers/specs/BoundCalls.antt`, which use those of [`bound_state`](crate::specs::bound_state), [`gcm`](crate::specs::gcm), [`nonce_sequence`](crate::specs::nonce_sequence), [`steps`](crate::specs::steps), [`aes`](aead_ciphers_base::specs::aes).

@@ -1,3 +1,4 @@
+// Written by tools/rust from crates/aead_ciphers/specs/BoundState.antt. Don't edit.
 //! What a contract sees of a key that is bound to a nonce sequence.
 //!
 //! The definitions of `crates/aead_ciphers/specs/BoundState.antt`, which use those of [`aead_key`](crate::specs::aead_key).

@@ -1,3 +1,4 @@
+// Written by tools/rust from crates/aead_ciphers/specs/Counting.antt. Don't edit.
 //! What a contract sees of a `CounterSequence` and of an `XoredSequence`.
 //!
 //! The definitions of `crates/aead_ciphers/specs/Counting.antt`, which use those of [`bytes`](aead_ciphers_base::specs::bytes).

@@ -1,3 +1,4 @@
+// Written by tools/rust from crates/aead_ciphers/specs/FreshNonces.antt. Don't edit.
 //! No nonce is used twice.
 //!
 //! The definitions of `crates/aead_ciphers/specs/FreshNonces.antt`, which use those of [`bound_state`](crate::specs::bound_state), [`runs`](crate::specs::runs), [`steps`](crate::specs::steps).

@@ -1,3 +1,4 @@
+// Written by tools/rust from crates/aead_ciphers/specs/Gcm.antt. Don't edit.
 //! Authenticated encryption with a block cipher of 16-byte blocks, 12-byte nonces and 16-byte tags (SP 800-38D
 //! section 7). A cipher is a function on blocks. Bytes are taken by index, and are 0 past the end.
 //!

@@ -1,3 +1,4 @@
+// Written by tools/rust from crates/aead_ciphers/specs/Ghash.antt. Don't edit.
 //! The product of blocks, and GHASH (SP 800-38D section 6).
 //!
 //! The definitions of `crates/aead_ciphers/specs/Ghash.antt`, which use those of [`byte_field`](aead_ciphers_base::specs::byte_field), [`bytes`](aead_ciphers_base::specs::bytes), [`polynomial`](aead_ciphers_base::specs::polynomial).

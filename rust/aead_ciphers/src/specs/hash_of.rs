@@ -1,3 +1,4 @@
+// Written by tools/rust from crates/aead_ciphers/specs/HashOf.antt. Don't edit.
 //! What a contract says of a GHASH that is computed over a list of blocks.
 //!
 //! The definitions of `crates/aead_ciphers/specs/HashOf.antt`, which use those of [`gcm`](crate::specs::gcm), [`ghash`](crate::specs::ghash).

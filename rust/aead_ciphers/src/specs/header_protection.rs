@@ -1,3 +1,4 @@
+// Written by tools/rust from crates/aead_ciphers/specs/HeaderProtection.antt. Don't edit.
 //! Header protection of QUIC (RFC 9001 section 5.4).
 //!
 //! The definitions of `crates/aead_ciphers/specs/HeaderProtection.antt`, which use those of [`mask`](aead_ciphers_base::specs::mask).

@@ -1,3 +1,4 @@
+// Written by tools/rust from crates/aead_ciphers/specs/Multiples.antt. Don't edit.
 //! The multiples of a hash subkey; a product of blocks is a sum of them (SP 800-38D section 6.3).
 //!
 //! The definitions of `crates/aead_ciphers/specs/Multiples.antt`, which use those of [`ghash`](crate::specs::ghash).

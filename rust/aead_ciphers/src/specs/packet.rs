@@ -1,3 +1,4 @@
+// Written by tools/rust from crates/aead_ciphers/specs/Packet.antt. Don't edit.
 //! A packet that is sealed or opened in place: a header, then the plaintext or ciphertext, then the tag or room for it.
 //!
 //! The definitions of `crates/aead_ciphers/specs/Packet.antt`, which use those of [`gcm`](crate::specs::gcm), [`aes`](aead_ciphers_base::specs::aes).

@@ -1,3 +1,4 @@
+// Written by tools/rust from crates/aead_ciphers/specs/Runs.antt. Don't edit.
 //! Runs, which take one step for each item of a list, in order.
 //!
 //! The definitions of `crates/aead_ciphers/specs/Runs.antt`, which use those of [`bound_state`](crate::specs::bound_state), [`gcm`](crate::specs::gcm), [`steps`](crate::specs::steps).

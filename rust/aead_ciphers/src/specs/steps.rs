@@ -1,3 +1,4 @@
+// Written by tools/rust from crates/aead_ciphers/specs/Steps.antt. Don't edit.
 //! What one call of a bound key does, by cases: the key, its sequence and the buffer, before and after. What is before the
 //! last arrow of a case is what holds in that case.
 //!

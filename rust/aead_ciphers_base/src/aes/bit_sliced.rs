@@ -1,3 +1,4 @@
+// Written by tools/rust from crates/aead_ciphers_base/src/aes/bit_sliced.rt. Don't edit.
 //! The AES cipher (FIPS 197 section 5.1) on planes, and on four blocks at a time.
 
 use super::pack::{pack, unpack};

@@ -1,3 +1,4 @@
+// Written by tools/rust from crates/aead_ciphers_base/src/aes/counter.rt. Don't edit.
 //! Counter blocks of 12-byte nonces (SP 800-38D sections 6.2 and 7.1).
 
 use crate::aes::{BLOCK_LEN, Block};

@@ -1,3 +1,4 @@
+// Written by tools/rust from crates/aead_ciphers_base/src/aes/ctr32.rt. Don't edit.
 //! AES counter mode in batches of four blocks (SP 800-38D section 6.5).
 
 use super::{BLOCK_LEN, Counter, EncryptCtr32, KeyRef, Overlapping, Work, ZERO_BLOCK};

@@ -1,3 +1,4 @@
+// Written by tools/rust from crates/aead_ciphers_base/src/aes/key_schedule.rt. Don't edit.
 //! The AES key schedule (FIPS 197 section 5.2), with SubWord computed on planes.
 
 use super::ZERO_BLOCK;

@@ -1,3 +1,4 @@
+// Written by tools/rust from crates/aead_ciphers_base/src/aes/pack.rt. Don't edit.
 //! Packing four AES blocks into eight bit planes, and unpacking them.
 //!
 //! If the blocks are read as eight little-endian words, bit `b` of byte `8 * i + j` is bit `8 * j + b` of

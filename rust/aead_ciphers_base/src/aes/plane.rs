@@ -1,3 +1,4 @@
+// Written by tools/rust from crates/aead_ciphers_base/src/aes/plane.rt. Don't edit.
 //! The trait `Plane`, of words that have one bit of each byte of some blocks.
 
 use core::ops::{BitAnd, BitXor};

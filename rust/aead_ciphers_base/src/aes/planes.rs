@@ -1,3 +1,4 @@
+// Written by tools/rust from crates/aead_ciphers_base/src/aes/planes.rt. Don't edit.
 //! SubBytes (FIPS 197 section 5.1.1) on 64 bytes at a time, in eight planes.
 
 use super::tower::sub_bytes;

@@ -1,3 +1,4 @@
+// Written by tools/rust from crates/aead_ciphers_base/src/aes/round.rt. Don't edit.
 //! The steps of an AES round on planes (FIPS 197 section 5.1), except SubBytes.
 
 use super::plane::Plane;

@@ -1,3 +1,4 @@
+// Written by tools/rust from crates/aead_ciphers_base/src/aes/tower.rt. Don't edit.
 //! The inverse and the affine transformation of the S-box (FIPS 197 section 5.1.1) on planes. The
 //! inverse is x^254, computed in a tower of fields.
 //!

@@ -1,3 +1,4 @@
+// Written by tools/rust from crates/aead_ciphers_base/src/aes/work.rt. Don't edit.
 //! Tallies of cipher blocks and field products, so that a contract can say how much a call computes.
 
 /// Two 64-bit tallies: of cipher blocks whose output was used, and of field products (SP 800-38D

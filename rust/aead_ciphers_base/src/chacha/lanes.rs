@@ -1,3 +1,4 @@
+// Written by tools/rust from crates/aead_ciphers_base/src/chacha/lanes.rt. Don't edit.
 //! ChaCha20's block function (RFC 8439 section 2.3) on four states at a time, side by side in vectors.
 
 use super::State;

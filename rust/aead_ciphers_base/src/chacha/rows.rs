@@ -1,3 +1,4 @@
+// Written by tools/rust from crates/aead_ciphers_base/src/chacha/rows.rt. Don't edit.
 //! ChaCha20's block function (RFC 8439 section 2.3) on one state, whose four rows are vectors.
 
 use super::lanes::{add, quarter_round};

@@ -1,3 +1,4 @@
+// Written by tools/rust from crates/aead_ciphers_base/src/error/input_too_long.rt. Don't edit.
 //! The error for an input that is too long.
 
 use core::error::Error;

@@ -1,3 +1,4 @@
+// Written by tools/rust from crates/aead_ciphers_base/src/overlapping/array.rt. Don't edit.
 //! Overlapping buffers whose input has a fixed number of items.
 
 use super::Overlapping;

@@ -1,3 +1,4 @@
+// Written by tools/rust from crates/aead_ciphers_base/src/overlapping/base.rt. Don't edit.
 //! `Overlapping`, a slice with a start: the input is the slice from the start on, and the output is its front.
 
 use super::{Chunk, map_chunk};

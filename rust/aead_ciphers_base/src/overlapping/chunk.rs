@@ -1,3 +1,4 @@
+// Written by tools/rust from crates/aead_ciphers_base/src/overlapping/chunk.rt. Don't edit.
 //! The trait `Chunk`, of arrays that stand for a fixed number of items of a slice, and closures that map one of them.
 
 /// A chunk of a fixed number of items: `[T; N]`.

@@ -1,3 +1,4 @@
+// Written by tools/rust from crates/aead_ciphers_base/src/overlapping/partial_block.rt. Don't edit.
 //! Overlapping buffers whose input is shorter than a block.
 
 use super::Overlapping;

@@ -1,3 +1,4 @@
+// Written by tools/rust from crates/aead_ciphers_base/src/polyfill/slice.rt. Don't edit.
 //! Views of slices as whole blocks: `AsChunks` for reading, `AsChunksMut` for writing.
 
 mod chunks;

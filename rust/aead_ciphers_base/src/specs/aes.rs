@@ -1,3 +1,4 @@
+// Written by tools/rust from crates/aead_ciphers_base/specs/Aes.antt. Don't edit.
 //! The cipher AES and its key schedule (FIPS 197).
 //!
 //! The definitions of `crates/aead_ciphers_base/specs/Aes.antt`, which use those of [`byte_field`](crate::specs::byte_field), [`bytes`](crate::specs::bytes).

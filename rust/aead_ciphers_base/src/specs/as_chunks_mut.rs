@@ -1,3 +1,4 @@
+// Written by tools/rust from crates/aead_ciphers_base/specs/AsChunksMut.antt. Don't edit.
 //! Lending the items of a mutable view. The final value of a mutable reference is what it points to when its borrow ends.
 //!
 //! The definitions of `crates/aead_ciphers_base/specs/AsChunksMut.antt`.

@@ -1,3 +1,4 @@
+// Written by tools/rust from crates/aead_ciphers_base/specs/Blocks.antt. Don't edit.
 //! Lists as whole blocks.
 //!
 //! The definitions of `crates/aead_ciphers_base/specs/Blocks.antt`.

@@ -1,3 +1,4 @@
+// Written by tools/rust from crates/aead_ciphers_base/specs/ByteField.antt. Don't edit.
 //! Bytes as elements of GF(2^8), and the S-box (FIPS 197 sections 4 and 5.1.1).
 //!
 //! The definitions of `crates/aead_ciphers_base/specs/ByteField.antt`, which use those of [`bytes`](crate::specs::bytes), [`polynomial`](crate::specs::polynomial).

@@ -1,3 +1,4 @@
+// Written by tools/rust from crates/aead_ciphers_base/specs/Bytes.antt. Don't edit.
 //! Lists of bytes.
 //!
 //! The definitions of `crates/aead_ciphers_base/specs/Bytes.antt`.

@@ -1,3 +1,4 @@
+// Written by tools/rust from crates/aead_ciphers_base/specs/ChaCha20.antt. Don't edit.
 //! ChaCha20 (RFC 8439). A word is a number below 2 ^ 32, and a state is a list of 16 words. Keys, nonces, blocks,
 //! keystreams and messages are lists of bytes.
 //!

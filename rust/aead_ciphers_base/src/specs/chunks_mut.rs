@@ -1,3 +1,4 @@
+// Written by tools/rust from crates/aead_ciphers_base/specs/ChunksMut.antt. Don't edit.
 //! Dividing a mutable slice into parts. The final value of a mutable reference is what it points to when its borrow ends.
 //!
 //! The definitions of `crates/aead_ciphers_base/specs/ChunksMut.antt`.

@@ -1,3 +1,4 @@
+// Written by tools/rust from crates/aead_ciphers_base/specs/CounterMode.antt. Don't edit.
 //! Counter mode over a block cipher (SP 800-38D section 6.5).
 //!
 //! The definitions of `crates/aead_ciphers_base/specs/CounterMode.antt`, which use those of [`bytes`](crate::specs::bytes).

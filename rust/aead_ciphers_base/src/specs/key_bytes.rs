@@ -1,3 +1,4 @@
+// Written by tools/rust from crates/aead_ciphers_base/specs/KeyBytes.antt. Don't edit.
 //! The bytes of an AES key, of either length.
 //!
 //! The definitions of `crates/aead_ciphers_base/specs/KeyBytes.antt`.

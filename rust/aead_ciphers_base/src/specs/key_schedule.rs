@@ -1,3 +1,4 @@
+// Written by tools/rust from crates/aead_ciphers_base/specs/KeySchedule.antt. Don't edit.
 //! Round keys as planes (FIPS 197 section 5.2).
 //!
 //! The definitions of `crates/aead_ciphers_base/specs/KeySchedule.antt`, which use those of [`aes`](crate::specs::aes), [`bytes`](crate::specs::bytes), [`planes`](crate::specs::planes).

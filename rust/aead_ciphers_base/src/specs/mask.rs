@@ -1,3 +1,4 @@
+// Written by tools/rust from crates/aead_ciphers_base/specs/Mask.antt. Don't edit.
 //! The header protection masks of QUIC (RFC 9001).
 //!
 //! The definitions of `crates/aead_ciphers_base/specs/Mask.antt`, which use those of [`aes`](crate::specs::aes), [`cha_cha20`](crate::specs::cha_cha20).

@@ -1,3 +1,4 @@
+// Written by tools/rust from crates/aead_ciphers_base/specs/Overlapping.antt. Don't edit.
 //! Overlapping buffers: lending the front of a slice, and mapping its chunks. The final value of a mutable reference is
 //! what it points to when its borrow ends.
 //!

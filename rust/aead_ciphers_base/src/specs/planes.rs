@@ -1,3 +1,4 @@
+// Written by tools/rust from crates/aead_ciphers_base/specs/Planes.antt. Don't edit.
 //! Blocks in eight planes, and four of them in planes of 64 bits: bit 16 block + byte of plane b is bit b of that byte.
 //!
 //! The definitions of `crates/aead_ciphers_base/specs/Planes.antt`, which use those of [`aes`](crate::specs::aes), [`byte_field`](crate::specs::byte_field), [`bytes`](crate::specs::bytes).

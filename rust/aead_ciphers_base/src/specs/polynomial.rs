@@ -1,3 +1,4 @@
+// Written by tools/rust from crates/aead_ciphers_base/specs/Polynomial.antt. Don't edit.
 //! Polynomials over the field of two elements, and their products modulo a polynomial (FIPS 197 section 4.2,
 //! SP 800-38D section 6.3). A polynomial is the list of its coefficients, which are bits, that of x^0 first.
 //!

@@ -1,3 +1,4 @@
+// Written by tools/rust from crates/aead_ciphers_base/specs/Shift.antt. Don't edit.
 //! Transforming the blocks of an overlapping buffer.
 //!
 //! The definitions of `crates/aead_ciphers_base/specs/Shift.antt`, which use those of [`blocks`](crate::specs::blocks).

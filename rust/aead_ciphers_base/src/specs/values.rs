@@ -1,3 +1,4 @@
+// Written by tools/rust from crates/aead_ciphers_base/specs/Values.antt. Don't edit.
 //! What a contract sees of an `Aad`: its bytes.
 //!
 //! The definitions of `crates/aead_ciphers_base/specs/Values.antt`.

@@ -1,3 +1,4 @@
+// Written by tools/rust from crates/aead_ciphers_base/specs/Work.antt. Don't edit.
 //! What a contract sees of a `Work`: the numbers of cipher blocks and field products that were counted.
 //!
 //! The definitions of `crates/aead_ciphers_base/specs/Work.antt`.

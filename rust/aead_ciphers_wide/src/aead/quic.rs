@@ -1,3 +1,4 @@
+// Written by tools/rust from crates/aead_ciphers_wide/src/aead/quic.rt. Don't edit.
 //! Header protection keys of QUIC (RFC 9001 section 5.4), whose AES encrypts the sample by byte permutes.
 
 use crate::aes;

@@ -1,3 +1,4 @@
+// Written by tools/rust from crates/aead_ciphers_wide/src/aes/bit_sliced.rt. Don't edit.
 //! The AES cipher (FIPS 197 section 5.1) on eight blocks and on sixteen blocks at a time.
 //!
 //! Eight blocks in planes of 128 bits sealed at 2.4 times the speed of `aead_ciphers`, two batches of four side by side at 1.75.

@@ -1,3 +1,4 @@
+// Written by tools/rust from crates/aead_ciphers_wide/src/aes/block_key.rt. Don't edit.
 //! AES keys for one block or two at a time: round keys alone, which the cipher by byte permutes reads.
 
 use super::expand;

@@ -1,3 +1,4 @@
+// Written by tools/rust from crates/aead_ciphers_wide/src/aes/counters.rt. Don't edit.
 //! Counter blocks as the bytes of words, for many blocks at a time.
 
 use crate::word::{WiderWord, Word};

@@ -1,3 +1,4 @@
+// Written by tools/rust from crates/aead_ciphers_wide/src/aes/ctr32.rt. Don't edit.
 //! Counter mode in batches of eight or sixteen blocks (SP 800-38D section 6.5).
 
 use super::counters::{counters, sixteen_counters};

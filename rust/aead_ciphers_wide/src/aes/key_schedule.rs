@@ -1,3 +1,4 @@
+// Written by tools/rust from crates/aead_ciphers_wide/src/aes/key_schedule.rt. Don't edit.
 //! The AES key schedule (FIPS 197 section 5.2), a round key at a time: the columns of a vector are its four words. The
 //! compiler would copy words of four bytes one by one.
 

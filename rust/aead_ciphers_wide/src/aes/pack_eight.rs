@@ -1,3 +1,4 @@
+// Written by tools/rust from crates/aead_ciphers_wide/src/aes/pack_eight.rt. Don't edit.
 //! Packing eight blocks into eight planes of 128 bits, and unpacking them.
 //!
 //! Word `i` has the bytes of block `i`. Bit `b` of its byte `j` moves to bit `i` of byte `j` of plane `b`.

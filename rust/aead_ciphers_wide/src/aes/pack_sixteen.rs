@@ -1,3 +1,4 @@
+// Written by tools/rust from crates/aead_ciphers_wide/src/aes/pack_sixteen.rt. Don't edit.
 //! Packing sixteen blocks into eight planes of 256 bits, and unpacking them.
 //!
 //! Word `i` has the bytes of blocks `2 * i` and `2 * i + 1`. Bit `b` of its byte `j` moves to bit `i` of byte `j` of plane `b`.

@@ -1,3 +1,4 @@
+// Written by tools/rust from crates/aead_ciphers_wide/src/aes/permuted.rt. Don't edit.
 //! The steps of an AES round (FIPS 197 section 5.1) on the bytes of a block, by byte permutes (M. Hamburg, Accelerating AES with
 //! Vector Permute Instructions, 2009).
 //!

@@ -1,3 +1,4 @@
+// Written by tools/rust from crates/aead_ciphers_wide/src/aes/round_keys.rt. Don't edit.
 //! AES round keys as blocks, and as the planes that a pass adds. The planes hold a round key eight times, once for each block, since
 //! spreading words in each round took a tenth of a pass.
 

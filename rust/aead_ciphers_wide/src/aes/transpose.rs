@@ -1,3 +1,4 @@
+// Written by tools/rust from crates/aead_ciphers_wide/src/aes/transpose.rt. Don't edit.
 //! The transposition of bits that packs blocks into planes, and unpacks them.
 
 use crate::lanes::Lanes;

@@ -1,3 +1,4 @@
+// Written by tools/rust from crates/aead_ciphers_wide/src/aes_gcm/pieces.rt. Don't edit.
 //! Sealing a message in pieces of any lengths, with any cipher and hash (SP 800-38D section 7.1).
 
 use crate::aes::BATCH_LEN;

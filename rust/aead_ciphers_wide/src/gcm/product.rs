@@ -1,3 +1,4 @@
+// Written by tools/rust from crates/aead_ciphers_wide/src/gcm/product.rt. Don't edit.
 //! The product of two blocks (SP 800-38D section 6.3), by a table of products of one of them.
 //!
 //! A block is the sum of u^(8 i) times its bytes, and each byte is 16 n + m for two digits below 16. So the

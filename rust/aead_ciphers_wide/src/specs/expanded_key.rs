@@ -1,3 +1,4 @@
+// Written by tools/rust from crates/aead_ciphers_wide/specs/ExpandedKey.antt. Don't edit.
 //! What a contract sees of an expanded AES-GCM key that is plain data.
 //!
 //! The definitions of `crates/aead_ciphers_wide/specs/ExpandedKey.antt`, which use those of [`aes`](aead_ciphers_base::specs::aes), [`bytes`](aead_ciphers_base::specs::bytes), [`products`](crate::specs::products), [`wide_schedule`](crate::specs::wide_schedule).

@@ -1,3 +1,4 @@
+// Written by tools/rust from crates/aead_ciphers_wide/specs/Pieces.antt. Don't edit.
 //! A message that is sealed in pieces (SP 800-38D section 7.1).
 //!
 //! The definitions of `crates/aead_ciphers_wide/specs/Pieces.antt`, which use those of [`gcm`](aead_ciphers::specs::gcm), [`hash_of`](aead_ciphers::specs::hash_of), [`bytes`](aead_ciphers_base::specs::bytes), [`counter_mode`](aead_ciphers_base::specs::counter_mode).

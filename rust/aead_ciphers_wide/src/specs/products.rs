@@ -1,3 +1,4 @@
+// Written by tools/rust from crates/aead_ciphers_wide/specs/Products.antt. Don't edit.
 //! The products of a hash subkey and the digits of a byte; a product of blocks is a sum of them (SP 800-38D section 6.3).
 //!
 //! The definitions of `crates/aead_ciphers_wide/specs/Products.antt`, which use those of [`ghash`](aead_ciphers::specs::ghash), [`multiples`](aead_ciphers::specs::multiples), [`bytes`](aead_ciphers_base::specs::bytes).

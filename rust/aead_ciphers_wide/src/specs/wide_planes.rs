@@ -1,3 +1,4 @@
+// Written by tools/rust from crates/aead_ciphers_wide/specs/WidePlanes.antt. Don't edit.
 //! Blocks in eight planes: eight in planes of 128 bits, where bit 8 byte + block of plane b is bit b of that byte, and sixteen in
 //! planes of 256 bits, whose halves are such planes of the blocks with even numbers and of those with odd ones.
 //!

@@ -1,3 +1,4 @@
+// Written by tools/rust from crates/aead_ciphers_wide/specs/WideSchedule.antt. Don't edit.
 //! Round keys as blocks, and as the planes that a pass over eight blocks adds (FIPS 197 section 5.2).
 //!
 //! The definitions of `crates/aead_ciphers_wide/specs/WideSchedule.antt`, which use those of [`aes`](aead_ciphers_base::specs::aes), [`bytes`](aead_ciphers_base::specs::bytes), [`planes`](aead_ciphers_base::specs::planes).

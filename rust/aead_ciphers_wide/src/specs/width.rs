@@ -1,3 +1,4 @@
+// Written by tools/rust from crates/aead_ciphers_wide/specs/Width.antt. Don't edit.
 //! The widths of bit planes, in bits.
 //!
 //! The definitions of `crates/aead_ciphers_wide/specs/Width.antt`.

@@ -1,3 +1,4 @@
+// Written by tools/rust from crates/aead_ciphers_wide/specs/Word.antt. Don't edit.
 //! Numbers as lanes of 64 bits, and those of 256 bits as two halves.
 //!
 //! The definitions of `crates/aead_ciphers_wide/specs/Word.antt`.

@@ -1,3 +1,4 @@
+// Written by tools/rust from crates/aead_ciphers_wide/src/word/wider.rt. Don't edit.
 //! `WiderWord`, a number of 256 bits in a vector: a plane of sixteen AES blocks.
 
 use super::Word;

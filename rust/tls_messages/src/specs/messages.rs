@@ -1,3 +1,4 @@
+// Written by tools/rust from crates/tls_messages/specs/Messages.antt. Don't edit.
 //! Handshake messages (RFC 8446 section 4), and how they are joined from the contents of records (section 5.1).
 //!
 //! The definitions of `crates/tls_messages/specs/Messages.antt`.

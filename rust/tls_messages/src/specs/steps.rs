@@ -1,3 +1,4 @@
+// Written by tools/rust from crates/tls_messages/specs/Steps.antt. Don't edit.
 //! What one call of a reader does, and the alert and the code in QUIC that an error calls for.
 //!
 //! The definitions of `crates/tls_messages/specs/Steps.antt`, which use those of [`messages`](crate::specs::messages).

@@ -1,3 +1,4 @@
+// Written by tools/rust from crates/xaes/specs/Derivation.antt. Don't edit.
 //! Deriving keys by CMAC (NIST SP 800-38B) over AES-256 in counter mode (NIST SP 800-108r1), as XAES-256-GCM (a specification of C2SP,
 //! c2sp.org/XAES-256-GCM) does.
 //!

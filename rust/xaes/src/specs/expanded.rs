@@ -1,3 +1,4 @@
+// Written by tools/rust from crates/xaes/specs/Expanded.antt. Don't edit.
 //! What a contract sees of an expanded key of XAES-256-GCM that is plain data.
 //!
 //! The definitions of `crates/xaes/specs/Expanded.antt`, which use those of [`aes`](aead_ciphers_base::specs::aes), [`bytes`](aead_ciphers_base::specs::bytes), [`wide_schedule`](aead_ciphers_wide::specs::wide_schedule), [`derivation`](crate::specs::derivation).

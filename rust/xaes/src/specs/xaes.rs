@@ -1,3 +1,4 @@
+// Written by tools/rust from crates/xaes/specs/Xaes.antt. Don't edit.
 //! XAES-256-GCM (a specification of C2SP, c2sp.org/XAES-256-GCM): a key of 32 bytes and a nonce of 24. A message is sealed by AES-256-GCM
 //! (NIST SP 800-38D) under a key that is derived for the first 12 bytes of the nonce, and the last 12 bytes as the nonce.
 //!

@@ -1,3 +1,4 @@
+// Written by tools/rust from crates/aead_ciphers_base/src/polyfill/slice/chunks.rt. Don't edit.
 //! Views of a slice as whole blocks, for reading.
 
 use core::ops::Index;
