@@ -1,4 +1,4 @@
-"""Contracts, and the ghost items of traits, as sections of doc comments, and the errors of `thiserror` written out."""
+"""Contracts, models and ghost items as sections of doc comments, and the errors of `thiserror` written out."""
 
 import typing
 
@@ -8,30 +8,46 @@ from tokens import group_end, made, next_of, parts, text_of
 def documented(lead, title, shown, links):
     """Returns the comments and attributes before an item, with lines of logic as a folded section at the end of the doc comment,
     and the links to their definitions."""
+    section = [f"<details><summary>{title}</summary>", "", "```text", *shown, "```", ""]
+    if links:
+        section += [*links, ""]
+    section.append("</details>")
+    if has_docs(lead):
+        section.insert(0, "")
+    return with_comment(lead, "///", section)
+
+
+def commented(lead, shown):
+    """Returns the comments and attributes before an item that no page shows, with lines of logic after the doc comment."""
+    return with_comment(lead, "//", shown)
+
+
+def has_docs(lead):
+    return any(line.lstrip().startswith("///") for line in lead.splitlines())
+
+
+def with_comment(lead, mark, comment):
+    """Returns the comments and attributes before an item, with a further comment after the doc comment."""
     lines = lead.splitlines(keepends=True)
     docs = [at for at, line in enumerate(lines) if line.lstrip().startswith("///")]
     after = docs[-1] + 1 if docs else next((at for at, line in enumerate(lines) if line.strip()), len(lines))
-    section = [f"<details><summary>{title}</summary>", "", "```text", *shown, "```", ""]
-    if links:
-        section += [links, ""]
-    section.append("</details>")
-    if docs:
-        section.insert(0, "")
-    text = "".join(f"/// {line}".rstrip() + "\n" for line in section)
+    text = "".join(f"{mark} {line}".rstrip() + "\n" for line in comment)
     if lines and after == len(lines) and not lead.endswith("\n"):
         lines.insert(after - 1, "")
         return "".join(lines[:-1]) + "\n" + text + lines[-1].strip(" ")
     return "".join(lines[:after]) + text + "".join(lines[after:])
 
 
-def on_one_line(tokens):
-    return " ".join(text_of(tokens).split())
+def lines_of(tokens, indent):
+    """Returns the lines of a clause or of a ghost item, without the spaces by which the source indents the item."""
+    first, *others = text_of(tokens).split("\n")
+    return [first, *(line[min(indent, len(line) - len(line.lstrip())) :] for line in others)]
 
 
-def ghost_of(item):
-    """Returns a ghost item of a trait after its comment, a line each."""
+def ghost_of(item, comment=None):
+    """Returns the lines of a ghost item, after its comments and this one."""
     comments = [token.text for token in item.lead if token.kind == "comment"]
-    return [*comments, on_one_line(item.tokens)]
+    return [*comments, *([f"// {comment}"] if comment else []), *lines_of(item.tokens, item.indent)]
 
 
 class Displayed(typing.NamedTuple):

@@ -10,6 +10,8 @@ IMPORT = re.compile(r"Rattle\.(\w+)\.specs\.(\w+)\.\{([^}]*)\}")
 # The line that begins a definition. A line `pub NAME :` below the head of a record is a field.
 DEFINED = re.compile(r" *(?:(?:abbrev|unfoldable) pub|pub (?:record|data)|pub) (\S+)")
 PLACE = "◌"
+# The length of a line, without what stands before it in an indented comment.
+LINE = 110
 
 # The page above those of the files.
 ROOT = """//! The definitions that the contracts of this crate cite, from the files of `crates/{crate}/specs`.
@@ -98,6 +100,18 @@ def page_of(text):
     return Page(comment, imports, [(names_in(paragraph), paragraph) for paragraph in paragraphs])
 
 
+def in_lines(links):
+    """Returns these links in lines."""
+    lines = [f"Definitions: {links[0]}"]
+    for link in links[1:]:
+        if len(lines[-1]) + len(link) < LINE:
+            lines[-1] += f", {link}"
+        else:
+            lines[-1] += ","
+            lines.append(link)
+    return [*lines[:-1], lines[-1] + "."]
+
+
 class Pages:
     """The files of definitions, and which of them contracts cite."""
 
@@ -114,12 +128,12 @@ class Pages:
         return self.pages[crate, file]
 
     def links(self, crate, found):
-        """Returns the line of a contract that links to the definitions that it cites, or nothing if it cites none."""
+        """Returns the lines of a contract that link to the definitions that it cites."""
         for _, it in found:
             if not any(it.name in names for names, _ in self.page(it.crate, it.file).paragraphs):
                 raise Fault(f"crates/{it.crate}/specs/{it.file}.antt doesn't define `{it.name}`")
             self.want(it.crate, it.file)
-        return f"Definitions: {', '.join(it.link(word, crate) for word, it in found)}." if found else ""
+        return in_lines([it.link(word, crate) for word, it in found]) if found else []
 
     def want(self, crate, file):
         """Notes that a file has a page, and so have those that it imports."""

@@ -434,10 +434,8 @@ class Writer:
         lead = text_of(attributes(self.source, item.lead) if is_entry else inlined(self.source, item))
         for clause in it.clauses:
             self.source.count("ghost parameter" if clause.kind == "ghost" else "clause")
-        if it.clauses and (item.is_public or place in ("trait", "trait impl")):
-            arguments = [parameter_name(parameter) for parameter in parts(it.parameters)]
-            logic = [clause.tokens for clause in it.clauses]
-            lead = self.documented(lead, "Contract", list(map(contracts.on_one_line, logic)), logic, arguments)
+        if it.clauses:
+            lead = self.with_contract(lead, it, item.is_public or place in ("trait", "trait impl"))
         it.body = executed(self.source, it.body)
         it.parameters = parameters(self.source, it)
         it.generics = without_bounds(self.source, it.generics)
@@ -450,6 +448,16 @@ class Writer:
             return lead.replace("inline(never)", "inline(always)") + self.leveler.outlined(self.source, it)
         it = self.leveler.function(self.source, it, place)
         return lead + text_of(self.rewritten(made(text_of_function(it), item.line)))
+
+    def with_contract(self, lead, it, is_shown):
+        """Returns what is before a function, with its contract, of which what holds when a loan ends comes last: in the doc
+        comment, if a page shows the function."""
+        clauses = sorted(it.clauses, key=lambda clause: clause.is_starred)
+        shown = [line for clause in clauses for line in contracts.lines_of(clause.tokens, clause.indent)]
+        if not is_shown:
+            return contracts.commented(lead, shown)
+        arguments = [parameter_name(parameter) for parameter in parts(it.parameters)]
+        return self.documented(lead, "Contract", shown, [clause.tokens for clause in clauses], arguments)
 
     def rewritten(self, tokens):
         tokens = [token._replace(text="core") if token.text == "std" else token for token in replaced(self.source, tokens)]

@@ -2,7 +2,7 @@
 
 import dataclasses
 
-from tokens import OPEN, Fault, angles_end, group_end, next_of, text_of
+from tokens import OPEN, Fault, angles_end, group_end, is_at, next_of, text_of
 
 # The items that end with a semicolon, whatever groups they have.
 PLAIN = {"use", "const", "static", "type", "ghost", "macro", "extern"}
@@ -24,6 +24,10 @@ class Item:
         return self.tokens[0].line if self.tokens else 0
 
     @property
+    def indent(self):
+        return indent_of(self.lead)
+
+    @property
     def is_public(self):
         return self.tokens[0].text == "pub" and self.tokens[1].text != "("
 
@@ -34,11 +38,17 @@ class Item:
 
 @dataclasses.dataclass
 class Clause:
-    """A clause of a contract, or a parameter of a function that only its contract has."""
+    """A clause of a contract, or a parameter of a function that only its contract has. Its first line is indented as the source
+    indents it."""
 
     kind: str
     name: str
     tokens: list
+    indent: int
+
+    @property
+    def is_starred(self):
+        return is_at(self.tokens, 1, "*")
 
 
 @dataclasses.dataclass
@@ -53,6 +63,11 @@ class Function:
     where: list
     clauses: list
     body: list
+
+
+def indent_of(before):
+    """Returns by how many spaces the source indents what these tokens are before."""
+    return len(text_of(before).rpartition("\n")[2])
 
 
 def visibility_end(tokens, at):
@@ -161,7 +176,7 @@ def function(tokens):
         if text in CLAUSES or text == "ghost":
             group, end = clause_end(tokens, at)
             words = [token.text for token in tokens[at:group] if token.kind == "word"]
-            parts["clauses"].append(Clause(words[0], " ".join(words[1:]), tokens[at:end]))
+            parts["clauses"].append(Clause(words[0], " ".join(words[1:]), tokens[at:end], indent_of(tokens[:at])))
             at = next_of(tokens, end)
             continue
         into = "where" if text == "where" else into

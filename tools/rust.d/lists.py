@@ -30,7 +30,7 @@ CRATES = {
 
 # What is deleted wherever it stands. The names are those by which the program counts.
 DELETED = {
-    "clause": Entry("`requires` and `ensures`", "A contract does nothing at run time. That of a public function goes into its doc comment."),
+    "clause": Entry("`requires` and `ensures`", "A contract does nothing at run time. That of a public function goes into its doc comment, and that of another function into a comment."),
     "ghost item": Entry("`ghost NAME ..`, in files, traits and `impl` blocks", "It is read by the proof alone. Those of a trait go into its doc comment."),
     "ghost import": Entry("`ghost use ..`", "It names the definitions of which clauses and ghost items speak. The contracts link to them."),
     "ghost field": Entry("`ghost NAME: { .. }` in a `struct`", "It states the invariant of the struct."),

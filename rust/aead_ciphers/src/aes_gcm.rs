@@ -44,10 +44,14 @@ pub type Key = key::Key<ExpandedKey>;
 /// ensures ciphertext { OnOk result (in_out.new ≡ gcm_encrypted (aes_cipher key.now) nonce in_out.old) }
 /// ensures tag { IfOk result (λ t. t ≡ gcm_tag (aes_cipher key.now) nonce (aad_bytes aad.entry) in_out.new) }
 /// ensures refused { OnErr result (in_out.new ≡ in_out.old) }
-/// ensures worked { SealWork (length (aad_bytes aad.entry)) (length in_out.old) result work.old work.new }
+/// ensures worked { SealWork (length (aad_bytes aad.entry)) (length in_out.old) result
+///     work.old work.new }
 /// ```
 ///
-/// Definitions: [`CanSeal`](crate::specs::gcm#CanSeal), [`aad_bytes`](aead_ciphers_base::specs::values#aad_bytes), [`Fits`](crate::specs::gcm#Fits), [`gcm_encrypted`](crate::specs::gcm#gcm_encrypted), [`aes_cipher`](aead_ciphers_base::specs::aes#aes), [`gcm_tag`](crate::specs::gcm#gcm_tag), [`SealWork`](crate::specs::gcm#SealWork).
+/// Definitions: [`CanSeal`](crate::specs::gcm#CanSeal), [`aad_bytes`](aead_ciphers_base::specs::values#aad_bytes),
+/// [`Fits`](crate::specs::gcm#Fits), [`gcm_encrypted`](crate::specs::gcm#gcm_encrypted),
+/// [`aes_cipher`](aead_ciphers_base::specs::aes#aes), [`gcm_tag`](crate::specs::gcm#gcm_tag),
+/// [`SealWork`](crate::specs::gcm#SealWork).
 ///
 /// </details>
 pub fn seal<K: GcmKey>(
@@ -75,11 +79,15 @@ pub fn seal<K: GcmKey>(
 ///
 /// ```text
 /// requires { CanOpen work.old (length (aad_bytes aad)) src.start (length in_out.old) }
-/// ensures opened { Opened (aes_cipher key.now) nonce (aad_bytes aad.entry) received_tag src.start in_out.old (is_ok result) in_out.new }
-/// ensures worked { OpenWork (length (aad_bytes aad.entry)) src.start (length in_out.old) result work.old work.new }
+/// ensures opened { Opened (aes_cipher key.now) nonce (aad_bytes aad.entry) received_tag src.start in_out.old
+///     (is_ok result) in_out.new }
+/// ensures worked { OpenWork (length (aad_bytes aad.entry)) src.start (length in_out.old) result
+///     work.old work.new }
 /// ```
 ///
-/// Definitions: [`CanOpen`](crate::specs::gcm#CanOpen), [`aad_bytes`](aead_ciphers_base::specs::values#aad_bytes), [`Opened`](crate::specs::gcm#Opened), [`aes_cipher`](aead_ciphers_base::specs::aes#aes), [`OpenWork`](crate::specs::gcm#OpenWork).
+/// Definitions: [`CanOpen`](crate::specs::gcm#CanOpen), [`aad_bytes`](aead_ciphers_base::specs::values#aad_bytes),
+/// [`Opened`](crate::specs::gcm#Opened), [`aes_cipher`](aead_ciphers_base::specs::aes#aes),
+/// [`OpenWork`](crate::specs::gcm#OpenWork).
 ///
 /// </details>
 pub fn open<K: GcmKey>(

@@ -101,11 +101,13 @@ pub trait UpdateBlock {
     ///
     /// ```text
     /// requires { CanAdd work.old 0 1 }
-    /// ensures hashed { (done : List (List ℕ)) → IsHashOf (hash_subkey self.now) done xi.old → IsHashOf (hash_subkey self.now) (done ++ block ∷ []) xi.new }
+    /// ensures hashed { (done : List (List ℕ)) → IsHashOf (hash_subkey self.now) done xi.old
+    ///     → IsHashOf (hash_subkey self.now) (done ++ block ∷ []) xi.new }
     /// ensures worked { Adds work.old work.new 0 1 }
     /// ```
     ///
-    /// Definitions: [`CanAdd`](aead_ciphers_base::specs::work#CanAdd), [`IsHashOf`](crate::specs::hash_of#IsHashOf), [`Adds`](aead_ciphers_base::specs::work#Adds).
+    /// Definitions: [`CanAdd`](aead_ciphers_base::specs::work#CanAdd), [`IsHashOf`](crate::specs::hash_of#IsHashOf),
+    /// [`Adds`](aead_ciphers_base::specs::work#Adds).
     ///
     /// </details>
     fn update_block(&self, xi: &mut Xi, block: Block, work: &mut Work);
@@ -119,11 +121,13 @@ pub trait UpdateBlocks: UpdateBlock {
     ///
     /// ```text
     /// requires { CanAdd work.old 0 (length input.items.now / 16) }
-    /// ensures hashed { (done : List (List ℕ)) → IsHashOf (Self.hash_subkey self.now) done xi.old → IsHashOf (Self.hash_subkey self.now) (done ++ blocks 16 input.entry.items.now) xi.new }
+    /// ensures hashed { (done : List (List ℕ)) → IsHashOf (Self.hash_subkey self.now) done xi.old
+    ///     → IsHashOf (Self.hash_subkey self.now) (done ++ blocks 16 input.entry.items.now) xi.new }
     /// ensures worked { Adds work.old work.new 0 (length input.entry.items.now / 16) }
     /// ```
     ///
-    /// Definitions: [`CanAdd`](aead_ciphers_base::specs::work#CanAdd), [`IsHashOf`](crate::specs::hash_of#IsHashOf), [`blocks`](aead_ciphers_base::specs::blocks#blocks), [`Adds`](aead_ciphers_base::specs::work#Adds).
+    /// Definitions: [`CanAdd`](aead_ciphers_base::specs::work#CanAdd), [`IsHashOf`](crate::specs::hash_of#IsHashOf),
+    /// [`blocks`](aead_ciphers_base::specs::blocks#blocks), [`Adds`](aead_ciphers_base::specs::work#Adds).
     ///
     /// </details>
     fn update_blocks(&self, xi: &mut Xi, input: AsChunks<'_, u8, BLOCK_LEN>, work: &mut Work);
@@ -161,6 +165,7 @@ impl Key {
     }
 
     /// Borrows the key.
+    // ensures { result ≡ self.now }
     #[inline(always)]
     pub(crate) fn as_key_ref(&self) -> KeyRef<'_> {
         KeyRef {
@@ -170,6 +175,8 @@ impl Key {
 }
 
 /// Writes the multiples of the hash subkey `value` to `multiples`.
+// ensures multiples { AreMultiples (to_be_bytes w128 (entry multiples.new 0)) multiples.new }
+// ensures subkey { to_be_bytes w128 (entry multiples.new 0) ≡ value }
 #[inline(always)]
 pub(crate) fn expand(multiples: &mut [u32; 512], value: KeyValue) {
     product::write_multiples(multiples, number_of_block(value.block));
@@ -182,6 +189,8 @@ pub(crate) struct KeyRef<'k> {
 
 impl<'k> KeyRef<'k> {
     /// Creates a key from the multiples of its hash subkey.
+    // requires { AreMultiples (to_be_bytes w128 (entry multiples.now 0)) multiples.now }
+    // ensures { result ≡ to_be_bytes w128 (entry multiples.now 0) }
     #[inline(always)]
     pub(crate) fn new(multiples: &'k [u32; 512]) -> Self {
         KeyRef { multiples }
@@ -189,6 +198,7 @@ impl<'k> KeyRef<'k> {
 }
 
 /// Returns the number whose big-endian bytes are `block`.
+// ensures { to_be_bytes w128 result ≡ block }
 #[inline(always)]
 fn number_of_block(block: Block) -> u128 {
     u128::from_be_bytes(block)

@@ -60,7 +60,12 @@ impl Job {
     /// <details><summary>Contract</summary>
     ///
     /// ```text
-    /// ensures { result ≡ record { operation = operation; aad = aad; buffer = buffer; outcome = Outcome.Refused; } }
+    /// ensures { result ≡ record {
+    ///   operation = operation;
+    ///   aad = aad;
+    ///   buffer = buffer;
+    ///   outcome = Outcome.Refused;
+    /// } }
     /// ```
     ///
     /// </details>
@@ -73,6 +78,10 @@ impl Job {
         }
     }
 
+    // ensures performed { JobStep S.spent S.is_closed S.origin O.spent O.is_closed O.origin
+    //     (sealing.old, opening.old) (sealing.new, opening.new) self.old self.new }
+    // ensures capacity_kept { self.old.operation ≢ Operation.Seal
+    //     → vec_capacity self.new.buffer ≡ vec_capacity self.old.buffer }
     fn perform<K: GcmKey, L: GcmKey, S: NonceSequence, O: NonceSequence>(
         &mut self,
         sealing: &mut SealingKey<K, S>,
@@ -128,12 +137,15 @@ impl Job {
 /// <details><summary>Contract</summary>
 ///
 /// ```text
-/// ensures ran { Runs (JobStep S.spent S.is_closed S.origin O.spent O.is_closed O.origin) (sealing.old, opening.old) (sealing.new, opening.new) jobs.old jobs.new }
-/// ensures capacity_kept { AllZip (λ old new. old.operation ≢ Operation.Seal → vec_capacity new.buffer ≡ vec_capacity old.buffer) jobs.old jobs.new }
+/// ensures ran { Runs (JobStep S.spent S.is_closed S.origin O.spent O.is_closed O.origin)
+///     (sealing.old, opening.old) (sealing.new, opening.new) jobs.old jobs.new }
+/// ensures capacity_kept { AllZip (λ old new. old.operation ≢ Operation.Seal
+///     → vec_capacity new.buffer ≡ vec_capacity old.buffer) jobs.old jobs.new }
 /// ensures no_nonce_twice { GrewFresh (S.spent sealing.old.sequence) (S.spent sealing.new.sequence) }
 /// ```
 ///
-/// Definitions: [`Runs`](crate::specs::runs#Runs), [`JobStep`](crate::specs::runs#JobStep), [`GrewFresh`](crate::specs::fresh_nonces#GrewFresh).
+/// Definitions: [`Runs`](crate::specs::runs#Runs), [`JobStep`](crate::specs::runs#JobStep),
+/// [`GrewFresh`](crate::specs::fresh_nonces#GrewFresh).
 ///
 /// </details>
 pub fn run<K: GcmKey, L: GcmKey, S: NonceSequence, O: NonceSequence>(

@@ -165,7 +165,8 @@ pub trait EncryptBlock {
     /// ensures worked { Adds work.old work.new 1 0 }
     /// ```
     ///
-    /// Definitions: [`CanAdd`](crate::specs::work#CanAdd), [`⊕`](crate::specs::bytes#⊕), [`Adds`](crate::specs::work#Adds).
+    /// Definitions: [`CanAdd`](crate::specs::work#CanAdd), [`⊕`](crate::specs::bytes#⊕),
+    /// [`Adds`](crate::specs::work#Adds).
     ///
     /// </details>
     #[inline(always)]
@@ -193,12 +194,15 @@ pub trait EncryptCtr32: EncryptBlock {
     /// ```text
     /// requires whole { input_len in_out % 16 ≡ 0 }
     /// requires sums { CanAdd work.old (input_len in_out / 16) 0 }
-    /// ensures output { EncryptsToFront (Self.cipher self.now) counter.old in_out.entry.start in_out.entry.in_out.now in_out.exit.0.now }
+    /// ensures output { EncryptsToFront (Self.cipher self.now) counter.old in_out.entry.start
+    ///     in_out.entry.in_out.now in_out.exit.0.now }
     /// ensures counter { Advances counter.old counter.new (input_len in_out.entry / 16) }
     /// ensures worked { Adds work.old work.new (input_len in_out.entry / 16) 0 }
     /// ```
     ///
-    /// Definitions: [`input_len`](crate::specs::overlapping#input_len), [`CanAdd`](crate::specs::work#CanAdd), [`EncryptsToFront`](crate::specs::counter_mode#EncryptsToFront), [`Advances`](crate::specs::counter_mode#Advances), [`Adds`](crate::specs::work#Adds).
+    /// Definitions: [`input_len`](crate::specs::overlapping#input_len), [`CanAdd`](crate::specs::work#CanAdd),
+    /// [`EncryptsToFront`](crate::specs::counter_mode#EncryptsToFront),
+    /// [`Advances`](crate::specs::counter_mode#Advances), [`Adds`](crate::specs::work#Adds).
     ///
     /// </details>
     fn ctr32_encrypt_within(&self, in_out: Overlapping<'_>, counter: &mut Counter, work: &mut Work);
@@ -254,6 +258,7 @@ impl Key {
     }
 
     /// Borrows the key as a `KeyRef`.
+    // ensures { result ≡ self.now }
     #[inline(always)]
     fn as_key_ref(&self) -> KeyRef<'_> {
         KeyRef {
@@ -268,7 +273,8 @@ impl Key {
     /// <details><summary>Contract</summary>
     ///
     /// ```text
-    /// ensures { (k : ℕ) → k < 4 → slice_index_or result k [] ≡ aes self.now (slice_index_or blocks k []) }
+    /// ensures { (k : ℕ) → k < 4
+    ///     → slice_index_or result k [] ≡ aes self.now (slice_index_or blocks k []) }
     /// ```
     ///
     /// Definitions: [`aes`](crate::specs::aes#aes).
@@ -309,7 +315,8 @@ impl Key {
 /// ensures bytes { key_of round_keys.new result ≡ key_bytes bytes.entry }
 /// ```
 ///
-/// Definitions: [`IsSchedule`](crate::specs::key_schedule#IsSchedule), [`key_of`](crate::specs::key_schedule#key_of), [`key_bytes`](crate::specs::key_bytes#key_bytes).
+/// Definitions: [`IsSchedule`](crate::specs::key_schedule#IsSchedule),
+/// [`key_of`](crate::specs::key_schedule#key_of), [`key_bytes`](crate::specs::key_bytes#key_bytes).
 ///
 /// </details>
 #[inline(always)]
@@ -337,7 +344,8 @@ impl<'k> KeyRef<'k> {
     /// ensures { result ≡ key_of round_keys.now rounds }
     /// ```
     ///
-    /// Definitions: [`IsSchedule`](crate::specs::key_schedule#IsSchedule), [`key_of`](crate::specs::key_schedule#key_of).
+    /// Definitions: [`IsSchedule`](crate::specs::key_schedule#IsSchedule),
+    /// [`key_of`](crate::specs::key_schedule#key_of).
     ///
     /// </details>
     #[inline(always)]
@@ -346,6 +354,7 @@ impl<'k> KeyRef<'k> {
     }
 
     /// Encrypts one block, as the first of four.
+    // ensures { result ≡ aes self.now block }
     #[inline(always)]
     fn cipher_block(&self, block: Block) -> Block {
         let [first, _, _, _] = self.encrypt_four([block, ZERO_BLOCK, ZERO_BLOCK, ZERO_BLOCK]);

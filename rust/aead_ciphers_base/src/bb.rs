@@ -32,6 +32,7 @@ pub fn verify_slices_are_equal(a: &[u8], b: &[u8]) -> Result<(), Unspecified> {
 
 /// Returns whether `difference` is 0. Not inlined, so that the compiler computes `difference` from all bytes instead of
 /// returning at the first that differs.
+// ensures { IsTrue result ↔ (difference ≡ 0) }
 #[inline(never)]
 fn is_zero(difference: u8) -> bool {
     difference == 0

@@ -41,6 +41,8 @@ type State = [u32; 16];
 const CONSTANTS: [u32; 4] = [0x6170_7865, 0x3320_646e, 0x7962_2d32, 0x6b20_6574];
 
 /// Writes words in little-endian order.
+// requires { length bytes.old ≡ 4 * length words.now }
+// ensures { bytes.new ≡ le_bytes words.now }
 fn write_le_bytes(words: &[u32], bytes: &mut [u8]) {
     for i in 0..words.len() {
         bytes[4 * i..4 * i + 4].copy_from_slice(&words[i].to_le_bytes());
@@ -48,6 +50,8 @@ fn write_le_bytes(words: &[u32], bytes: &mut [u8]) {
 }
 
 /// Reads words in little-endian order.
+// requires { length bytes.now ≡ 4 * N }
+// ensures { result ≡ le_words bytes.now }
 fn le_words<const N: usize>(bytes: &[u8]) -> [u32; N] {
     let mut words = [0; N];
     for i in 0..N {
@@ -59,6 +63,11 @@ fn le_words<const N: usize>(bytes: &[u8]) -> [u32; N] {
 
 /// XORs the `n` bytes at `start + at` with the keystream, and writes them at `at`. All bytes are read
 /// before any is written.
+// requires in_slice { start + at + n ≤ length in_out.old }
+// requires in_stream { n ≤ N }
+// ensures { in_out.new ≡ take at in_out.old
+//     ++ (take n (drop (start + at) in_out.old) ⊕ stream.entry)
+//     ++ drop (at + n) in_out.old }
 fn xor_stream<const N: usize>(
     in_out: &mut [u8],
     start: usize,
@@ -221,10 +230,14 @@ impl Key {
     ///
     /// ```text
     /// requires { counter.number + div_ceil (input_len in_out) 64 ≤ 2 ^ 32 }
-    /// ensures { let input = input_of in_out.entry in in_out.exit.0.now ≡ chacha20_encrypted self.now counter.number counter.nonce input ++ drop (length input) in_out.entry.in_out.now }
+    /// ensures { let input = input_of in_out.entry in
+    ///     in_out.exit.0.now ≡ chacha20_encrypted self.now counter.number counter.nonce input
+    ///     ++ drop (length input) in_out.entry.in_out.now }
     /// ```
     ///
-    /// Definitions: [`input_len`](crate::specs::overlapping#input_len), [`input_of`](crate::specs::overlapping#input_of), [`chacha20_encrypted`](crate::specs::cha_cha20#chacha20_encrypted).
+    /// Definitions: [`input_len`](crate::specs::overlapping#input_len),
+    /// [`input_of`](crate::specs::overlapping#input_of),
+    /// [`chacha20_encrypted`](crate::specs::cha_cha20#chacha20_encrypted).
     ///
     /// </details>
     pub fn encrypt(&self, counter: Counter, in_out: Overlapping<'_>) {
@@ -278,6 +291,11 @@ impl Key {
     }
 
     /// Encrypts the bytes from `start` on, and writes the output to the front.
+    // requires within { start ≤ length in_out.old }
+    // requires counted { counter.now.number + div_ceil (length in_out.old - start) 64 ≤ 2 ^ 32 }
+    // ensures { let input = drop start in_out.old in
+    //     in_out.new ≡ chacha20_encrypted self.now counter.now.number counter.now.nonce input
+    //     ++ drop (length input) in_out.old }
     fn encrypt_within(&self, counter: &Counter, in_out: &mut [u8], start: usize) {
         let len = in_out.len() - start;
         let mut j = 0;
@@ -302,11 +320,15 @@ impl Key {
     }
 
     /// Returns block `j` of the keystream after the counter.
+    // requires { counter.now.number + j < 2 ^ 32 }
+    // ensures { result ≡ chacha20_block self.now (counter.now.number + j) counter.now.nonce }
     fn keystream_block(&self, counter: &Counter, j: u32) -> [u8; BLOCK_LEN] {
         state_block(&self.initial_state(counter, j))
     }
 
     /// Returns four blocks of the keystream, from block `j` after the counter on.
+    // requires { counter.now.number + j + 4 ≤ 2 ^ 32 }
+    // ensures { result ≡ each_below BATCH_LEN (stream_byte self.now (counter.now.number + j) counter.now.nonce) }
     fn four_keystream_blocks(&self, counter: &Counter, j: u32) -> [u8; BATCH_LEN] {
         let words = lanes::four_blocks(&self.initial_state(counter, j));
         let mut bytes = [0; BATCH_LEN];
@@ -315,6 +337,12 @@ impl Key {
     }
 
     /// Returns the initial state of block `j` after the counter.
+    // requires { counter.now.number + j < 2 ^ 32 }
+    // ensures state { result
+    //     ≡ initial_state self.now (counter.now.number + j) counter.now.nonce }
+    // ensures word_12 { slice_index result 12 ≡ counter.now.number + j }
+    // ensures counter_in_word_12 { (n : ℕ) → slice_set result 12 n
+    //     ≡ initial_state self.now n counter.now.nonce }
     fn initial_state(&self, counter: &Counter, j: u32) -> State {
         let [c0, c1, c2, c3] = CONSTANTS;
         let [k0, k1, k2, k3, k4, k5, k6, k7] = self.words;

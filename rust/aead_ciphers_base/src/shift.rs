@@ -14,10 +14,13 @@ use crate::overlapping::{Chunk, Overlapping, chunk_at};
 /// requires some { 0 < C.chunk_len }
 /// requires whole { input_len in_out % C.chunk_len ≡ 0 }
 /// requires callable { TakesBlocks C.chunk_items F.FnMut C.chunk_len transform (input_of in_out) }
-/// ensures { ShiftsBlocks C.chunk_items F.FnMut C.chunk_len transform in_out.entry.in_out.now in_out.entry.start in_out.exit.0.now }
+/// ensures { ShiftsBlocks C.chunk_items F.FnMut C.chunk_len transform
+///     in_out.entry.in_out.now in_out.entry.start in_out.exit.0.now }
 /// ```
 ///
-/// Definitions: [`input_len`](crate::specs::overlapping#input_len), [`TakesBlocks`](crate::specs::shift#TakesBlocks), [`input_of`](crate::specs::overlapping#input_of), [`ShiftsBlocks`](crate::specs::shift#ShiftsBlocks).
+/// Definitions: [`input_len`](crate::specs::overlapping#input_len),
+/// [`TakesBlocks`](crate::specs::shift#TakesBlocks), [`input_of`](crate::specs::overlapping#input_of),
+/// [`ShiftsBlocks`](crate::specs::shift#ShiftsBlocks).
 ///
 /// </details>
 pub fn shift_full_blocks<C: Chunk<u8>, F: FnMut(&C) -> C>(

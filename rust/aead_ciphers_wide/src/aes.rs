@@ -90,7 +90,9 @@ impl Width {
 /// ensures unused { AreZerosAfter round_keys.new result }
 /// ```
 ///
-/// Definitions: [`IsSchedule`](crate::specs::wide_schedule#IsSchedule), [`key_of`](crate::specs::wide_schedule#key_of), [`key_bytes`](aead_ciphers_base::specs::key_bytes#key_bytes), [`AreZerosAfter`](crate::specs::wide_schedule#AreZerosAfter).
+/// Definitions: [`IsSchedule`](crate::specs::wide_schedule#IsSchedule),
+/// [`key_of`](crate::specs::wide_schedule#key_of), [`key_bytes`](aead_ciphers_base::specs::key_bytes#key_bytes),
+/// [`AreZerosAfter`](crate::specs::wide_schedule#AreZerosAfter).
 ///
 /// </details>
 #[inline(always)]
@@ -123,7 +125,8 @@ impl<'k, V: simd::Level> KeyRef<'k, V> {
     /// ensures { result ≡ key_of round_keys.now rounds }
     /// ```
     ///
-    /// Definitions: [`IsSchedule`](crate::specs::wide_schedule#IsSchedule), [`HoldsPlanes`](crate::specs::wide_schedule#HoldsPlanes), [`key_of`](crate::specs::wide_schedule#key_of).
+    /// Definitions: [`IsSchedule`](crate::specs::wide_schedule#IsSchedule),
+    /// [`HoldsPlanes`](crate::specs::wide_schedule#HoldsPlanes), [`key_of`](crate::specs::wide_schedule#key_of).
     ///
     /// </details>
     #[inline(always)]
@@ -143,6 +146,7 @@ impl<'k, V: simd::Level> KeyRef<'k, V> {
     }
 
     /// Borrows the round keys, for one block at a time.
+    // ensures { result ≡ self.now }
     #[inline(always)]
     fn as_block_key_ref(&self) -> BlockKeyRef<'k, V> {
         BlockKeyRef::<V>::new(self.round_keys, self.rounds)

@@ -82,7 +82,10 @@ impl ExpandedKey {
     /// ensures worked { Adds work.old work.new 1 0 }
     /// ```
     ///
-    /// Definitions: [`CanAdd`](aead_ciphers_base::specs::work#CanAdd), [`IsExpanded`](crate::specs::expanded_key#IsExpanded), [`bytes_of`](crate::specs::expanded_key#bytes_of), [`key_bytes`](aead_ciphers_base::specs::key_bytes#key_bytes), [`width_bits`](crate::specs::width#width_bits), [`HasZerosAfter`](crate::specs::expanded_key#HasZerosAfter), [`Adds`](aead_ciphers_base::specs::work#Adds).
+    /// Definitions: [`CanAdd`](aead_ciphers_base::specs::work#CanAdd),
+    /// [`IsExpanded`](crate::specs::expanded_key#IsExpanded), [`bytes_of`](crate::specs::expanded_key#bytes_of),
+    /// [`key_bytes`](aead_ciphers_base::specs::key_bytes#key_bytes), [`width_bits`](crate::specs::width#width_bits),
+    /// [`HasZerosAfter`](crate::specs::expanded_key#HasZerosAfter), [`Adds`](aead_ciphers_base::specs::work#Adds).
     ///
     /// </details>
     pub fn expand_with_width(&mut self, bytes: KeyBytes<'_>, width: Width, work: &mut Work) {
@@ -119,7 +122,8 @@ impl ExpandedKey {
     /// ensures { IsTrue result ↔ (bytes_of self.now ≡ bytes.now) }
     /// ```
     ///
-    /// Definitions: [`IsExpanded`](crate::specs::expanded_key#IsExpanded), [`bytes_of`](crate::specs::expanded_key#bytes_of).
+    /// Definitions: [`IsExpanded`](crate::specs::expanded_key#IsExpanded),
+    /// [`bytes_of`](crate::specs::expanded_key#bytes_of).
     ///
     /// </details>
     #[inline(always)]
@@ -130,6 +134,8 @@ impl ExpandedKey {
     }
 
     /// Borrows the AES key.
+    // requires { IsExpanded self.now }
+    // ensures { result ≡ bytes_of self.now }
     #[inline(always)]
     fn aes<V: simd::Level>(&self) -> aes::KeyRef<'_, V> {
         aes::KeyRef::<V>::new(
@@ -141,6 +147,8 @@ impl ExpandedKey {
     }
 
     /// Borrows the key of GHASH, whose hash subkey is the encrypted zero block.
+    // requires { IsExpanded self.now }
+    // ensures { result ≡ aes_cipher (bytes_of self.now) zero_block }
     #[inline(always)]
     fn gcm<V: simd::Level>(&self) -> gcm::KeyRef<'_, V> {
         gcm::KeyRef::<V>::new(&self.products, &self.squares)
@@ -153,12 +161,15 @@ impl ExpandedKey {
     ///
     /// ```text
     /// requires { IsExpanded self.now }
-    /// ensures opened { OpenedAttached (aes_cipher (bytes_of self.now)) nonce (aad_bytes aad.entry) ciphertext_and_tag.start in_out.old (is_ok result) in_out.new }
+    /// ensures opened { OpenedAttached (aes_cipher (bytes_of self.now)) nonce (aad_bytes aad.entry)
+    ///     ciphertext_and_tag.start in_out.old (is_ok result) in_out.new }
     /// ensures count { IfOk result (λ n. n ≡ length in_out.old - 16 - ciphertext_and_tag.start) }
     /// ensures refused { OnErr result (in_out.new ≡ in_out.old) }
     /// ```
     ///
-    /// Definitions: [`IsExpanded`](crate::specs::expanded_key#IsExpanded), [`OpenedAttached`](aead_ciphers::specs::gcm#OpenedAttached), [`aes_cipher`](aead_ciphers_base::specs::aes#aes), [`bytes_of`](crate::specs::expanded_key#bytes_of), [`aad_bytes`](aead_ciphers_base::specs::values#aad_bytes).
+    /// Definitions: [`IsExpanded`](crate::specs::expanded_key#IsExpanded),
+    /// [`OpenedAttached`](aead_ciphers::specs::gcm#OpenedAttached), [`aes_cipher`](aead_ciphers_base::specs::aes#aes),
+    /// [`bytes_of`](crate::specs::expanded_key#bytes_of), [`aad_bytes`](aead_ciphers_base::specs::values#aad_bytes).
     ///
     /// </details>
     pub fn open_within_to_front(
@@ -213,11 +224,14 @@ impl ExpandedKey {
     /// ```text
     /// requires { IsExpanded self.now }
     /// ensures accepted { IsOk result ↔ Fits (length (aad_bytes aad.entry)) 0 }
-    /// ensures begun { IfOk result (λ state. HasSealed (aes_cipher (bytes_of self.now)) nonce (aad_bytes aad.entry) [] [] state) }
+    /// ensures begun { IfOk result (λ state. HasSealed (aes_cipher (bytes_of self.now)) nonce
+    ///     (aad_bytes aad.entry) [] [] state) }
     /// ensures cleared { IfOk result (λ state. state.batch ≡ replicate 128 0) }
     /// ```
     ///
-    /// Definitions: [`IsExpanded`](crate::specs::expanded_key#IsExpanded), [`Fits`](aead_ciphers::specs::gcm#Fits), [`aad_bytes`](aead_ciphers_base::specs::values#aad_bytes), [`HasSealed`](crate::specs::pieces#HasSealed), [`aes_cipher`](aead_ciphers_base::specs::aes#aes), [`bytes_of`](crate::specs::expanded_key#bytes_of).
+    /// Definitions: [`IsExpanded`](crate::specs::expanded_key#IsExpanded), [`Fits`](aead_ciphers::specs::gcm#Fits),
+    /// [`aad_bytes`](aead_ciphers_base::specs::values#aad_bytes), [`HasSealed`](crate::specs::pieces#HasSealed),
+    /// [`aes_cipher`](aead_ciphers_base::specs::aes#aes), [`bytes_of`](crate::specs::expanded_key#bytes_of).
     ///
     /// </details>
     pub fn begin(&self, nonce: Nonce, aad: Aad<'_>) -> Result<SealState, Unspecified> {
@@ -249,11 +263,14 @@ impl ExpandedKey {
     /// ```text
     /// requires { IsExpanded self.now }
     /// ensures accepted { IsOk result ↔ Fits (length (joined aad.now)) 0 }
-    /// ensures begun { IfOk result (λ state. HasSealed (aes_cipher (bytes_of self.now)) nonce (joined aad.now) [] [] state) }
+    /// ensures begun { IfOk result (λ state. HasSealed (aes_cipher (bytes_of self.now)) nonce
+    ///     (joined aad.now) [] [] state) }
     /// ensures cleared { IfOk result (λ state. state.batch ≡ replicate 128 0) }
     /// ```
     ///
-    /// Definitions: [`IsExpanded`](crate::specs::expanded_key#IsExpanded), [`Fits`](aead_ciphers::specs::gcm#Fits), [`joined`](crate::specs::pieces#joined), [`HasSealed`](crate::specs::pieces#HasSealed), [`aes_cipher`](aead_ciphers_base::specs::aes#aes), [`bytes_of`](crate::specs::expanded_key#bytes_of).
+    /// Definitions: [`IsExpanded`](crate::specs::expanded_key#IsExpanded), [`Fits`](aead_ciphers::specs::gcm#Fits),
+    /// [`joined`](crate::specs::pieces#joined), [`HasSealed`](crate::specs::pieces#HasSealed),
+    /// [`aes_cipher`](aead_ciphers_base::specs::aes#aes), [`bytes_of`](crate::specs::expanded_key#bytes_of).
     ///
     /// </details>
     pub fn begin_with_parts(&self, nonce: Nonce, aad: &[&[u8]]) -> Result<SealState, Unspecified> {
@@ -286,11 +303,14 @@ impl ExpandedKey {
     /// requires key { IsExpanded self.now }
     /// requires fits { Fits state.old.aad_len state.old.len }
     /// ensures accepted { IsOk result ↔ Fits state.old.aad_len (state.old.len + length in_out.old) }
-    /// ensures sealed { OnOk result (SealsPiece (aes_cipher (bytes_of self.now)) state.old in_out.old in_out.new state.new) }
+    /// ensures sealed { OnOk result (SealsPiece (aes_cipher (bytes_of self.now)) state.old
+    ///     in_out.old in_out.new state.new) }
     /// ensures refused { OnErr result ((state.new ≡ state.old) × (in_out.new ≡ in_out.old)) }
     /// ```
     ///
-    /// Definitions: [`IsExpanded`](crate::specs::expanded_key#IsExpanded), [`Fits`](aead_ciphers::specs::gcm#Fits), [`SealsPiece`](crate::specs::pieces#SealsPiece), [`aes_cipher`](aead_ciphers_base::specs::aes#aes), [`bytes_of`](crate::specs::expanded_key#bytes_of).
+    /// Definitions: [`IsExpanded`](crate::specs::expanded_key#IsExpanded), [`Fits`](aead_ciphers::specs::gcm#Fits),
+    /// [`SealsPiece`](crate::specs::pieces#SealsPiece), [`aes_cipher`](aead_ciphers_base::specs::aes#aes),
+    /// [`bytes_of`](crate::specs::expanded_key#bytes_of).
     ///
     /// </details>
     pub fn update(&self, state: &mut SealState, in_out: &mut [u8]) -> Result<(), Unspecified> {
@@ -320,10 +340,14 @@ impl ExpandedKey {
     /// ```text
     /// requires key { IsExpanded self.now }
     /// requires fits { Fits state.aad_len state.len }
-    /// ensures { (nonce aad message ciphertext : List ℕ) → HasSealed (aes_cipher (bytes_of self.now)) nonce aad message ciphertext state → result ≡ gcm_tag (aes_cipher (bytes_of self.now)) nonce aad ciphertext }
+    /// ensures { (nonce aad message ciphertext : List ℕ)
+    ///     → HasSealed (aes_cipher (bytes_of self.now)) nonce aad message ciphertext state
+    ///     → result ≡ gcm_tag (aes_cipher (bytes_of self.now)) nonce aad ciphertext }
     /// ```
     ///
-    /// Definitions: [`IsExpanded`](crate::specs::expanded_key#IsExpanded), [`Fits`](aead_ciphers::specs::gcm#Fits), [`HasSealed`](crate::specs::pieces#HasSealed), [`aes_cipher`](aead_ciphers_base::specs::aes#aes), [`bytes_of`](crate::specs::expanded_key#bytes_of), [`gcm_tag`](aead_ciphers::specs::gcm#gcm_tag).
+    /// Definitions: [`IsExpanded`](crate::specs::expanded_key#IsExpanded), [`Fits`](aead_ciphers::specs::gcm#Fits),
+    /// [`HasSealed`](crate::specs::pieces#HasSealed), [`aes_cipher`](aead_ciphers_base::specs::aes#aes),
+    /// [`bytes_of`](crate::specs::expanded_key#bytes_of), [`gcm_tag`](aead_ciphers::specs::gcm#gcm_tag).
     ///
     /// </details>
     pub fn finish(&self, state: SealState) -> Tag {
@@ -347,7 +371,8 @@ impl ExpandedKey {
     /// ensures { result ≡ aes_mask (bytes_of self.now) sample }
     /// ```
     ///
-    /// Definitions: [`IsExpanded`](crate::specs::expanded_key#IsExpanded), [`aes_mask`](aead_ciphers_base::specs::mask#aes_mask), [`bytes_of`](crate::specs::expanded_key#bytes_of).
+    /// Definitions: [`IsExpanded`](crate::specs::expanded_key#IsExpanded),
+    /// [`aes_mask`](aead_ciphers_base::specs::mask#aes_mask), [`bytes_of`](crate::specs::expanded_key#bytes_of).
     ///
     /// </details>
     pub fn new_mask(&self, sample: Sample) -> [u8; 5] {

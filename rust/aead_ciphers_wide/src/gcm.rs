@@ -32,6 +32,7 @@ pub fn expand<V: simd::Level>(products: &mut [u8; 512], squares: &mut [u8; 512],
 }
 
 /// Returns the number whose big-endian bytes are `block`.
+// ensures { to_be_bytes w128 result ≡ block }
 #[inline(always)]
 fn number_of_block(block: Block) -> u128 {
     u128::from_be_bytes(block)

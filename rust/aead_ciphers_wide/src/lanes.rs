@@ -24,7 +24,8 @@ pub trait Lanes: Plane {
     ///
     /// ```text
     /// requires { n < 64 }
-    /// ensures { (j : ℕ) → j < Self.width / 64 → lane_of j (Self.number result) ≡ lane_of j (Self.number self) * 2 ^ n % 2 ^ 64 }
+    /// ensures { (j : ℕ) → j < Self.width / 64
+    ///     → lane_of j (Self.number result) ≡ lane_of j (Self.number self) * 2 ^ n % 2 ^ 64 }
     /// ```
     ///
     /// Definitions: [`lane_of`](crate::specs::word#lane_of).
@@ -38,7 +39,8 @@ pub trait Lanes: Plane {
     ///
     /// ```text
     /// requires { n < 64 }
-    /// ensures { (j : ℕ) → j < Self.width / 64 → lane_of j (Self.number result) ≡ lane_of j (Self.number self) / 2 ^ n }
+    /// ensures { (j : ℕ) → j < Self.width / 64
+    ///     → lane_of j (Self.number result) ≡ lane_of j (Self.number self) / 2 ^ n }
     /// ```
     ///
     /// Definitions: [`lane_of`](crate::specs::word#lane_of).

@@ -118,6 +118,7 @@ impl MessageError {
 }
 
 /// Returns the code for an alert (RFC 9001 section 4.8).
+// ensures { result ≡ crypto_error alert }
 fn crypto_error(alert: AlertDescription) -> u64 {
     CRYPTO_ERROR + u64::from(alert as u8)
 }

@@ -51,7 +51,13 @@ impl<'b> MessageReader<'b> {
     ///
     /// ```text
     /// requires { MESSAGE_HEADER_LEN ≤ length buffer.old }
-    /// ensures { result ≡ record { message = []; part = []; bound = length buffer.old; stage = stage; is_closed = false; } }
+    /// ensures { result ≡ record {
+    ///   message = [];
+    ///   part = [];
+    ///   bound = length buffer.old;
+    ///   stage = stage;
+    ///   is_closed = false;
+    /// } }
     /// ```
     ///
     /// </details>
@@ -149,7 +155,8 @@ impl<'b> MessageReader<'b> {
     /// ```text
     /// ensures accepted { IsOk result ↔ (IsFalse self.old.is_closed × (self.old.part ≡ [])) }
     /// ensures closed { IsTrue self.old.is_closed → IsErrOf result MessageError.Closed }
-    /// ensures interrupted { IsFalse self.old.is_closed → IsOkUnless result MessageError.Interrupted }
+    /// ensures interrupted { IsFalse self.old.is_closed
+    ///     → IsOkUnless result MessageError.Interrupted }
     /// ensures kept { OnOk result (self.new ≡ self.old) }
     /// ensures closes { OnErr result (self.new ≡ record self.old { is_closed = true }) }
     /// ```
@@ -179,15 +186,27 @@ impl<'b> MessageReader<'b> {
     /// <details><summary>Contract</summary>
     ///
     /// ```text
-    /// ensures* leaves { sem 𝓛 (follows_so (the_row (record { mir = named 1; lft = [] })) (the_row (record { mir = named 1; lft = [] })) self.entry.ghost_name none (λ _ _. ⊤) (λ now. Leaves self.old content.old.now result content.new.now now)) }
-    /// ensures found { IfOk result (λ found. IfSome found (λ message. IsMessage message.now × (messages_of (self.old.part ++ content.old.now) ≡ message.now ∷ messages_of content.new.now) × (part_of (self.old.part ++ content.old.now) ≡ part_of content.new.now) × (length content.new.now < length content.old.now))) }
-    /// ensures taken { IfOk result (λ found. IfSome found (λ message. IsTaken message.now content.new.now × IsExpected self.old.stage self.old.bound message.now)) }
-    /// ensures ended { IfOk result (λ found. found ≡ None → (content.new.now ≡ []) × (messages_of (self.old.part ++ content.old.now) ≡ [])) }
-    /// ensures begins { IsOk result → Begins self.old.stage self.old.bound (self.old.part ++ content.old.now) }
+    /// ensures found { IfOk result (λ found. IfSome found (λ message. IsMessage message.now
+    ///     × (messages_of (self.old.part ++ content.old.now) ≡ message.now ∷ messages_of content.new.now)
+    ///     × (part_of (self.old.part ++ content.old.now) ≡ part_of content.new.now)
+    ///     × (length content.new.now < length content.old.now))) }
+    /// ensures taken { IfOk result (λ found. IfSome found (λ message. IsTaken message.now content.new.now
+    ///     × IsExpected self.old.stage self.old.bound message.now)) }
+    /// ensures ended { IfOk result (λ found. found ≡ None → (content.new.now ≡ [])
+    ///     × (messages_of (self.old.part ++ content.old.now) ≡ [])) }
+    /// ensures begins { IsOk result
+    ///     → Begins self.old.stage self.old.bound (self.old.part ++ content.old.now) }
     /// ensures closed { IsTrue self.old.is_closed → IsErrOf result MessageError.Closed }
+    /// ensures* leaves { sem 𝓛 (follows_so (the_row (record { mir = named 1; lft = [] }))
+    ///     (the_row (record { mir = named 1; lft = [] }))
+    ///     self.entry.ghost_name none (λ _ _. ⊤)
+    ///     (λ now. Leaves self.old content.old.now result content.new.now now)) }
     /// ```
     ///
-    /// Definitions: [`Leaves`](crate::specs::steps#Leaves), [`IsMessage`](crate::specs::messages#IsMessage), [`messages_of`](crate::specs::messages#messages_of), [`part_of`](crate::specs::messages#part_of), [`IsTaken`](crate::specs::messages#IsTaken), [`IsExpected`](crate::specs::messages#IsExpected), [`Begins`](crate::specs::messages#Begins).
+    /// Definitions: [`IsMessage`](crate::specs::messages#IsMessage),
+    /// [`messages_of`](crate::specs::messages#messages_of), [`part_of`](crate::specs::messages#part_of),
+    /// [`IsTaken`](crate::specs::messages#IsTaken), [`IsExpected`](crate::specs::messages#IsExpected),
+    /// [`Begins`](crate::specs::messages#Begins), [`Leaves`](crate::specs::steps#Leaves).
     ///
     /// </details>
     pub fn next<'s>(&'s mut self, content: &mut &[u8]) -> Result<Option<&'s [u8]>, MessageError> {
@@ -198,6 +217,25 @@ impl<'b> MessageReader<'b> {
     }
 
     /// Moves bytes from the front of the content to the message that the reader is at, and returns whether the message is whole.
+    // ensures rules { (self.new.bound ≡ self.old.bound) × (self.new.stage ≡ self.old.stage) }
+    // ensures joined { IfErr result (λ error. IsFalse self.old.is_closed
+    //     → self.old.part ++ content.old.now ≡ self.new.part ++ content.new.now) }
+    // ensures found { IfOk result (λ found. IsTrue found → IsMessage self.new.message × (self.new.part ≡ [])
+    //     × (messages_of (self.old.part ++ content.old.now) ≡ self.new.message ∷ messages_of content.new.now)
+    //     × (part_of (self.old.part ++ content.old.now) ≡ part_of content.new.now)
+    //     × (length content.new.now < length content.old.now)) }
+    // ensures taken { IfOk result (λ found. IsTrue found → IsTaken self.new.message content.new.now
+    //     × IsExpected self.old.stage self.old.bound self.new.message) }
+    // ensures ended { IfOk result (λ found. IsFalse found → (self.new.message ≡ []) × (content.new.now ≡ [])
+    //     × (messages_of (self.old.part ++ content.old.now) ≡ [])
+    //     × (part_of (self.old.part ++ content.old.now) ≡ self.new.part)) }
+    // ensures begins { IsOk result
+    //     → Begins self.old.stage self.old.bound (self.old.part ++ content.old.now) }
+    // ensures refused { IsFalse self.old.is_closed → IfErr result (λ error. (self.new.message ≡ [])
+    //     × Refuses self.old.stage self.old.bound self.old.part self.new.part content.new.now error) }
+    // ensures closed { IsTrue self.old.is_closed → IsErrOf result MessageError.Closed
+    //     × (self.new ≡ self.old) × (content.new.now ≡ content.old.now) }
+    // ensures closes { IsTrue self.new.is_closed ↔ IsErr result }
     fn advance(&mut self, content: &mut &[u8]) -> Result<bool, MessageError> {
         if self.is_closed {
             return Err(MessageError::Closed);
@@ -214,6 +252,7 @@ impl<'b> MessageReader<'b> {
     }
 
     /// Returns the message that was found last, or an empty slice if none was.
+    // ensures { result.now ≡ self.now.message }
     fn message(&self) -> &[u8] {
         if self.is_whole {
             &self.buffer[..self.filled]
@@ -225,6 +264,24 @@ impl<'b> MessageReader<'b> {
 
 /// Moves bytes from the front of the content into the buffer, which has `filled` bytes of a message, until the message is whole,
 /// and then checks the message. Returns whether it is whole.
+// requires { (4 ≤ length buffer.old) × (filled.old ≤ length buffer.old) × IsPart (take filled.old buffer.old) }
+// ensures within { filled.new ≤ length buffer.old }
+// ensures joined { take filled.old buffer.old ++ content.old.now
+//     ≡ take filled.new buffer.new ++ content.new.now }
+// ensures found { IfOk result (λ found. IsTrue found → IsMessage (take filled.new buffer.new)
+//     × (messages_of (take filled.old buffer.old ++ content.old.now)
+//     ≡ take filled.new buffer.new ∷ messages_of content.new.now)
+//     × (part_of (take filled.old buffer.old ++ content.old.now) ≡ part_of content.new.now)
+//     × (length content.new.now < length content.old.now)) }
+// ensures taken { IfOk result (λ found. IsTrue found → IsTaken (take filled.new buffer.new) content.new.now
+//     × IsExpected stage (length buffer.old) (take filled.new buffer.new)) }
+// ensures ended { IfOk result (λ found. IsFalse found → IsPart (take filled.new buffer.new)
+//     × (content.new.now ≡ [])
+//     × (messages_of (take filled.old buffer.old ++ content.old.now) ≡ [])
+//     × (part_of (take filled.old buffer.old ++ content.old.now) ≡ take filled.new buffer.new)) }
+// ensures begins { IsOk result → Begins stage (length buffer.old) (take filled.old buffer.old ++ content.old.now) }
+// ensures refused { IfErr result (Refuses stage (length buffer.old) (take filled.old buffer.old)
+//     (take filled.new buffer.new) content.new.now) }
 fn next_message(
     stage: Stage,
     buffer: &mut [u8],
@@ -239,6 +296,11 @@ fn next_message(
 }
 
 /// Checks the byte of a KeyUpdate, and that a message that changes keys is the last of its record.
+// requires { IsMessage message.now × (slice_index message.now 0 ≡ 24 → message_len message.now ≡ 5) }
+// ensures accepted { IsOk result ↔ ((slice_index message.now 0 ≡ 24 → slice_index message.now 4 ≤ 1)
+//     × (ChangesKeys message.now → IsTrue is_last)) }
+// ensures refused { (rest : List ℕ) → (IsFalse is_last → rest ≢ [])
+//     → IfErr result (RefusesMessage message.now rest) }
 fn check_whole(message: &[u8], is_last: bool) -> Result<(), MessageError> {
     if message[0] == KEY_UPDATE && message[MESSAGE_HEADER_LEN] > 1 {
         return Err(MessageError::KeyUpdateRequest);
@@ -251,6 +313,22 @@ fn check_whole(message: &[u8], is_last: bool) -> Result<(), MessageError> {
 
 /// Moves bytes from the front of the content into the buffer, which has `filled` bytes of a message, until the message is whole.
 /// Returns whether it is whole.
+// requires { (4 ≤ length buffer.old) × (filled.old ≤ length buffer.old) × IsPart (take filled.old buffer.old) }
+// ensures within { filled.new ≤ length buffer.old }
+// ensures joined { take filled.old buffer.old ++ content.old.now
+//     ≡ take filled.new buffer.new ++ content.new.now }
+// ensures found { IfOk result (λ found. IsTrue found → IsMessage (take filled.new buffer.new)
+//     × (messages_of (take filled.old buffer.old ++ content.old.now)
+//     ≡ take filled.new buffer.new ∷ messages_of content.new.now)
+//     × (part_of (take filled.old buffer.old ++ content.old.now) ≡ part_of content.new.now)
+//     × (length content.new.now < length content.old.now)) }
+// ensures ended { IfOk result (λ found. IsFalse found → IsPart (take filled.new buffer.new)
+//     × (content.new.now ≡ [])
+//     × (messages_of (take filled.old buffer.old ++ content.old.now) ≡ [])
+//     × (part_of (take filled.old buffer.old ++ content.old.now) ≡ take filled.new buffer.new)) }
+// ensures accepted { IsOk result ↔ Begins stage (length buffer.old) (take filled.old buffer.old ++ content.old.now) }
+// ensures refused { IfErr result (RefusesHeader stage (length buffer.old) (take filled.new buffer.new)) }
+// ensures kept { OnErr result (length (take filled.new buffer.new) ≡ max 4 (length (take filled.old buffer.old))) }
 fn join(
     stage: Stage,
     buffer: &mut [u8],
@@ -268,6 +346,10 @@ fn join(
 }
 
 /// Returns the length of the message that begins with these bytes, if it may come and is no longer than they are.
+// requires { 4 ≤ length start.now }
+// ensures accepted { IsOk result ↔ IsExpected stage (length start.now) start.now }
+// ensures len { IfOk result (λ n. n ≡ message_len start.now) }
+// ensures refused { IfErr result (RefusesHeader stage (length start.now) start.now) }
 fn expected_len(stage: Stage, start: &[u8]) -> Result<usize, MessageError> {
     let message_type = start[0];
     if !stage.allows(message_type) {
@@ -284,6 +366,10 @@ fn expected_len(stage: Stage, start: &[u8]) -> Result<usize, MessageError> {
 }
 
 /// Moves bytes from the front of the content into `buffer[at..end]`, as many as there are, and returns how many.
+// requires { (at ≤ end) × (end ≤ length buffer.old) }
+// ensures filled { take (at + result) buffer.new ++ content.new.now ≡ take at buffer.old ++ content.old.now }
+// ensures within { at + result ≤ end }
+// ensures used { at + result < end → content.new.now ≡ [] }
 fn fill(buffer: &mut [u8], at: usize, end: usize, content: &mut &[u8]) -> usize {
     let count = (end - at).min(content.len());
     let (taken, rest) = content.split_at(count);
@@ -293,6 +379,8 @@ fn fill(buffer: &mut [u8], at: usize, end: usize, content: &mut &[u8]) -> usize 
 }
 
 /// Returns the length of the message that begins with these bytes, including its header.
+// requires { 4 ≤ length start.now }
+// ensures { result ≡ message_len start.now }
 pub(crate) fn message_len(start: &[u8]) -> usize {
     MESSAGE_HEADER_LEN
         + (65536 * usize::from(start[1]) + 256 * usize::from(start[2]) + usize::from(start[3]))

@@ -20,6 +20,7 @@ pub const FINISHED: u8 = 20;
 pub const KEY_UPDATE: u8 = 24;
 
 /// Returns whether the keys may change after a message of this type, so that its record must end with it (RFC 8446 section 5.1).
+// ensures { result ≡ changes_keys_lem message_type }
 pub(crate) fn changes_keys(message_type: u8) -> bool {
     message_type == CLIENT_HELLO
         || message_type == SERVER_HELLO

@@ -124,7 +124,8 @@ impl Stage {
     /// ensures all { IfSome result (λ may_send. may_send ≡ may_send_all self (messages_of messages.now)) }
     /// ```
     ///
-    /// Definitions: [`part_of`](crate::specs::messages#part_of), [`may_send_all`](crate::specs::messages#may_send_all), [`messages_of`](crate::specs::messages#messages_of).
+    /// Definitions: [`part_of`](crate::specs::messages#part_of), [`may_send_all`](crate::specs::messages#may_send_all),
+    /// [`messages_of`](crate::specs::messages#messages_of).
     ///
     /// </details>
     pub fn may_send_all(self, messages: &[u8]) -> Option<bool> {
@@ -139,12 +140,15 @@ impl Stage {
     }
 
     /// Returns whether the endpoint may send a message of this type in a row of messages, of which it is the last if `is_last`.
+    // ensures { result ≡ (may_send self message_type && (is_last || not (message_type == 20))) }
     fn may_send_next(self, message_type: u8, is_last: bool) -> bool {
         self.may_send(message_type) && (is_last || message_type != FINISHED)
     }
 }
 
 /// Returns the length of the whole message that these bytes begin with, or `None` if they don't begin with one.
+// ensures some { IfSome result (λ n. (n ≡ message_len_of bytes.now) × (4 ≤ n) × (n ≤ length bytes.now)) }
+// ensures none { IfNone result (IsPart bytes.now) }
 fn whole_len(bytes: &[u8]) -> Option<usize> {
     if bytes.len() < MESSAGE_HEADER_LEN {
         return None;

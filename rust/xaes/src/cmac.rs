@@ -18,6 +18,7 @@ const LABEL: u8 = b'X';
 const R: u128 = 0x87;
 
 /// Returns the first subkey K1 of CMAC, given the encrypted zero block (SP 800-38B section 6.1).
+// ensures { result ≡ first_subkey cipher_of_zero }
 #[inline(always)]
 fn subkey_of(cipher_of_zero: Block) -> Block {
     let number = u128::from_be_bytes(cipher_of_zero);
@@ -26,6 +27,7 @@ fn subkey_of(cipher_of_zero: Block) -> Block {
 }
 
 /// Returns the first subkey K1 of CMAC under the key of this cipher.
+// ensures { result ≡ first_subkey (aes cipher.now zero_block) }
 #[inline(always)]
 pub(crate) fn first_subkey<V: simd::Level>(cipher: &BlockKeyRef<'_, V>) -> Block {
     subkey_of(cipher.encrypt_block(ZERO_BLOCK, &mut Work::new()))
@@ -41,6 +43,8 @@ pub(crate) struct Cmac<'k, V: simd::Level> {
 
 impl<'k, V: simd::Level> Cmac<'k, V> {
     /// Creates CMAC under the key of `cipher`, whose first subkey is `subkey`.
+    // requires { subkey ≡ first_subkey (aes cipher zero_block) }
+    // ensures { result ≡ cipher.entry }
     #[inline(always)]
     pub(crate) fn new(cipher: BlockKeyRef<'k, V>, subkey: Block) -> Self {
         Cmac {
@@ -51,6 +55,7 @@ impl<'k, V: simd::Level> Cmac<'k, V> {
     }
 
     /// Computes CMAC of a message of one block (SP 800-38B section 6.2).
+    // ensures { result ≡ cmac_of_block self.now block }
     #[inline(always)]
     fn mac_of_block(&self, block: Block) -> Block {
         self.cipher
@@ -58,6 +63,7 @@ impl<'k, V: simd::Level> Cmac<'k, V> {
     }
 
     /// Returns one iteration of the derivation (SP 800-108r1 section 4.1), 16 bytes.
+    // ensures { result ≡ derived_block self.now context.now iteration }
     #[inline(always)]
     fn derived_block(&self, context: &Context, iteration: u16) -> Block {
         let [i0, i1] = iteration.to_be_bytes();
@@ -68,6 +74,7 @@ impl<'k, V: simd::Level> Cmac<'k, V> {
     }
 
     /// Returns two iterations of the derivation, 16 bytes each, concatenated.
+    // ensures { result ≡ derived_block self.now context.now first ++ derived_block self.now context.now second }
     #[inline(always)]
     pub(crate) fn derived_blocks(
         &self,
@@ -83,6 +90,7 @@ impl<'k, V: simd::Level> Cmac<'k, V> {
     }
 
     /// Returns the key that XAES-256-GCM derives for this context, by iterations 1 and 2.
+    // ensures { result ≡ derived_key self.now context.now }
     #[inline(always)]
     pub(crate) fn derived_key(&self, context: &Context) -> [u8; AES_256_KEY_LEN] {
         self.derived_blocks(context, 1, 2)

@@ -89,7 +89,8 @@ impl ExpandedKey {
     /// ensures width { self.new.width ≡ width_bits width }
     /// ```
     ///
-    /// Definitions: [`IsExpanded`](crate::specs::expanded#IsExpanded), [`bytes_of`](crate::specs::expanded#bytes_of), [`width_bits`](aead_ciphers_wide::specs::width#width_bits).
+    /// Definitions: [`IsExpanded`](crate::specs::expanded#IsExpanded), [`bytes_of`](crate::specs::expanded#bytes_of),
+    /// [`width_bits`](aead_ciphers_wide::specs::width#width_bits).
     ///
     /// </details>
     pub fn expand(&mut self, bytes: &[u8; AES_256_KEY_LEN], width: Width) {
@@ -109,6 +110,8 @@ impl ExpandedKey {
     }
 
     /// Borrows CMAC under this key, which derives the keys of messages.
+    // requires { IsExpanded self.now }
+    // ensures { result ≡ bytes_of self.now }
     pub(crate) fn cmac<V: simd::Level>(&self) -> Cmac<'_, V> {
         Cmac::<V>::new(
             BlockKeyRef::<V>::new(&self.round_keys, self.rounds as usize),
@@ -117,6 +120,7 @@ impl ExpandedKey {
     }
 
     /// Returns the width of the planes on which messages are encrypted.
+    // ensures { width_bits result ≡ message_width self.now }
     fn width(&self) -> Width {
         if self.width == Width::Bits256.bits() {
             Width::Bits256
@@ -138,7 +142,11 @@ impl ExpandedKey {
     /// ensures width { message_key.new.width ≡ message_width self.now }
     /// ```
     ///
-    /// Definitions: [`IsExpanded`](crate::specs::expanded#IsExpanded), [`IsGcmKey`](aead_ciphers_wide::specs::expanded_key#IsExpanded), [`gcm_key_bytes`](aead_ciphers_wide::specs::expanded_key#bytes_of), [`message_key_of`](crate::specs::xaes#message_key), [`bytes_of`](crate::specs::expanded#bytes_of), [`message_nonce`](crate::specs::xaes#message_nonce), [`message_width`](crate::specs::expanded#message_width).
+    /// Definitions: [`IsExpanded`](crate::specs::expanded#IsExpanded),
+    /// [`IsGcmKey`](aead_ciphers_wide::specs::expanded_key#IsExpanded),
+    /// [`gcm_key_bytes`](aead_ciphers_wide::specs::expanded_key#bytes_of),
+    /// [`message_key_of`](crate::specs::xaes#message_key), [`bytes_of`](crate::specs::expanded#bytes_of),
+    /// [`message_nonce`](crate::specs::xaes#message_nonce), [`message_width`](crate::specs::expanded#message_width).
     ///
     /// </details>
     pub fn expand_message_key(
@@ -181,7 +189,10 @@ impl ExpandedKey {
     /// ensures refused { OnErr result (in_out.new ≡ in_out.old) }
     /// ```
     ///
-    /// Definitions: [`IsExpanded`](crate::specs::expanded#IsExpanded), [`Fits`](aead_ciphers::specs::gcm#Fits), [`aad_bytes`](aead_ciphers_base::specs::values#aad_bytes), [`xaes_encrypted`](crate::specs::xaes#xaes_encrypted), [`bytes_of`](crate::specs::expanded#bytes_of), [`xaes_tag`](crate::specs::xaes#xaes_tag).
+    /// Definitions: [`IsExpanded`](crate::specs::expanded#IsExpanded), [`Fits`](aead_ciphers::specs::gcm#Fits),
+    /// [`aad_bytes`](aead_ciphers_base::specs::values#aad_bytes),
+    /// [`xaes_encrypted`](crate::specs::xaes#xaes_encrypted), [`bytes_of`](crate::specs::expanded#bytes_of),
+    /// [`xaes_tag`](crate::specs::xaes#xaes_tag).
     ///
     /// </details>
     pub fn seal(&self, nonce: XNonce, aad: Aad<'_>, in_out: &mut [u8]) -> Result<Tag, Unspecified> {
@@ -211,7 +222,10 @@ impl ExpandedKey {
     /// ensures refused { OnErr result (out.new ≡ out.old) }
     /// ```
     ///
-    /// Definitions: [`IsExpanded`](crate::specs::expanded#IsExpanded), [`Fits`](aead_ciphers::specs::gcm#Fits), [`aad_bytes`](aead_ciphers_base::specs::values#aad_bytes), [`xaes_encrypted`](crate::specs::xaes#xaes_encrypted), [`bytes_of`](crate::specs::expanded#bytes_of), [`xaes_tag`](crate::specs::xaes#xaes_tag).
+    /// Definitions: [`IsExpanded`](crate::specs::expanded#IsExpanded), [`Fits`](aead_ciphers::specs::gcm#Fits),
+    /// [`aad_bytes`](aead_ciphers_base::specs::values#aad_bytes),
+    /// [`xaes_encrypted`](crate::specs::xaes#xaes_encrypted), [`bytes_of`](crate::specs::expanded#bytes_of),
+    /// [`xaes_tag`](crate::specs::xaes#xaes_tag).
     ///
     /// </details>
     pub fn seal_to(
@@ -243,12 +257,14 @@ impl ExpandedKey {
     ///
     /// ```text
     /// requires { IsExpanded self.now }
-    /// ensures opened { XaesOpened (bytes_of self.now) nonce (aad_bytes aad.entry) received_tag src.start in_out.old (is_ok result) in_out.new }
+    /// ensures opened { XaesOpened (bytes_of self.now) nonce (aad_bytes aad.entry) received_tag src.start
+    ///     in_out.old (is_ok result) in_out.new }
     /// ensures count { IfOk result (λ n. n ≡ length in_out.old - src.start) }
     /// ensures refused { OnErr result (in_out.new ≡ in_out.old) }
     /// ```
     ///
-    /// Definitions: [`IsExpanded`](crate::specs::expanded#IsExpanded), [`XaesOpened`](crate::specs::xaes#XaesOpened), [`bytes_of`](crate::specs::expanded#bytes_of), [`aad_bytes`](aead_ciphers_base::specs::values#aad_bytes).
+    /// Definitions: [`IsExpanded`](crate::specs::expanded#IsExpanded), [`XaesOpened`](crate::specs::xaes#XaesOpened),
+    /// [`bytes_of`](crate::specs::expanded#bytes_of), [`aad_bytes`](aead_ciphers_base::specs::values#aad_bytes).
     ///
     /// </details>
     pub fn open(
@@ -271,12 +287,15 @@ impl ExpandedKey {
     ///
     /// ```text
     /// requires { IsExpanded self.now }
-    /// ensures opened { XaesOpenedAttached (bytes_of self.now) nonce (aad_bytes aad.entry) ciphertext_and_tag.start in_out.old (is_ok result) in_out.new }
+    /// ensures opened { XaesOpenedAttached (bytes_of self.now) nonce (aad_bytes aad.entry)
+    ///     ciphertext_and_tag.start in_out.old (is_ok result) in_out.new }
     /// ensures count { IfOk result (λ n. n ≡ length in_out.old - tag_len - ciphertext_and_tag.start) }
     /// ensures refused { OnErr result (in_out.new ≡ in_out.old) }
     /// ```
     ///
-    /// Definitions: [`IsExpanded`](crate::specs::expanded#IsExpanded), [`XaesOpenedAttached`](crate::specs::xaes#XaesOpenedAttached), [`bytes_of`](crate::specs::expanded#bytes_of), [`aad_bytes`](aead_ciphers_base::specs::values#aad_bytes), [`tag_len`](aead_ciphers::specs::gcm#tag_len).
+    /// Definitions: [`IsExpanded`](crate::specs::expanded#IsExpanded),
+    /// [`XaesOpenedAttached`](crate::specs::xaes#XaesOpenedAttached), [`bytes_of`](crate::specs::expanded#bytes_of),
+    /// [`aad_bytes`](aead_ciphers_base::specs::values#aad_bytes), [`tag_len`](aead_ciphers::specs::gcm#tag_len).
     ///
     /// </details>
     pub fn open_within_to_front(
@@ -307,12 +326,15 @@ impl ExpandedKey {
     /// ```text
     /// requires key { IsExpanded self.now }
     /// requires lengths { length out.old ≡ length ciphertext.now }
-    /// ensures accepted { IsOk result ↔ (Fits (length (aad_bytes aad.entry)) (length ciphertext.now) × (received_tag ≡ xaes_tag (bytes_of self.now) nonce (aad_bytes aad.entry) ciphertext.now)) }
+    /// ensures accepted { IsOk result ↔ (Fits (length (aad_bytes aad.entry)) (length ciphertext.now)
+    ///     × (received_tag ≡ xaes_tag (bytes_of self.now) nonce (aad_bytes aad.entry) ciphertext.now)) }
     /// ensures plaintext { OnOk result (out.new ≡ xaes_decrypted (bytes_of self.now) nonce ciphertext.now) }
     /// ensures refused { OnErr result (out.new ≡ out.old) }
     /// ```
     ///
-    /// Definitions: [`IsExpanded`](crate::specs::expanded#IsExpanded), [`Fits`](aead_ciphers::specs::gcm#Fits), [`aad_bytes`](aead_ciphers_base::specs::values#aad_bytes), [`xaes_tag`](crate::specs::xaes#xaes_tag), [`bytes_of`](crate::specs::expanded#bytes_of), [`xaes_decrypted`](crate::specs::xaes#xaes_decrypted).
+    /// Definitions: [`IsExpanded`](crate::specs::expanded#IsExpanded), [`Fits`](aead_ciphers::specs::gcm#Fits),
+    /// [`aad_bytes`](aead_ciphers_base::specs::values#aad_bytes), [`xaes_tag`](crate::specs::xaes#xaes_tag),
+    /// [`bytes_of`](crate::specs::expanded#bytes_of), [`xaes_decrypted`](crate::specs::xaes#xaes_decrypted).
     ///
     /// </details>
     pub fn open_to(

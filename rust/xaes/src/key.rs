@@ -168,7 +168,8 @@ impl Xaes256Gcm {
     /// ensures refused { OnErr result (in_out.new ≡ in_out.old) }
     /// ```
     ///
-    /// Definitions: [`Fits`](aead_ciphers::specs::gcm#Fits), [`aad_bytes`](aead_ciphers_base::specs::values#aad_bytes), [`xaes_encrypted`](crate::specs::xaes#xaes_encrypted), [`xaes_tag`](crate::specs::xaes#xaes_tag).
+    /// Definitions: [`Fits`](aead_ciphers::specs::gcm#Fits), [`aad_bytes`](aead_ciphers_base::specs::values#aad_bytes),
+    /// [`xaes_encrypted`](crate::specs::xaes#xaes_encrypted), [`xaes_tag`](crate::specs::xaes#xaes_tag).
     ///
     /// </details>
     pub fn seal_in_place_separate_tag(
@@ -192,15 +193,19 @@ impl Xaes256Gcm {
     /// <details><summary>Contract</summary>
     ///
     /// ```text
-    /// ensures sealed { OnOk result (B.bytes in_out.new ≡ xaes_sealed self.now nonce (aad_bytes aad.entry) (B.bytes in_out.old)) }
+    /// ensures sealed { OnOk result (B.bytes in_out.new
+    ///     ≡ xaes_sealed self.now nonce (aad_bytes aad.entry) (B.bytes in_out.old)) }
     /// ensures refused { OnErr result (B.bytes in_out.new ≡ B.bytes in_out.old) }
     /// ensures length { OnOk result (length (B.bytes in_out.new) ≡ length (B.bytes in_out.old) + tag_len) }
     /// ensures granted { IsOk result → B.may_grant in_out.old }
     /// ensures fits { IsOk result → Fits (length (aad_bytes aad.entry)) (length (B.bytes in_out.old)) }
-    /// ensures refuses { OnErr result (Fits (length (aad_bytes aad.entry)) (length (B.bytes in_out.old)) → B.may_refuse in_out.old) }
+    /// ensures refuses { OnErr result (Fits (length (aad_bytes aad.entry)) (length (B.bytes in_out.old))
+    ///     → B.may_refuse in_out.old) }
     /// ```
     ///
-    /// Definitions: [`xaes_sealed`](crate::specs::xaes#xaes_sealed), [`aad_bytes`](aead_ciphers_base::specs::values#aad_bytes), [`tag_len`](aead_ciphers::specs::gcm#tag_len), [`Fits`](aead_ciphers::specs::gcm#Fits).
+    /// Definitions: [`xaes_sealed`](crate::specs::xaes#xaes_sealed),
+    /// [`aad_bytes`](aead_ciphers_base::specs::values#aad_bytes), [`tag_len`](aead_ciphers::specs::gcm#tag_len),
+    /// [`Fits`](aead_ciphers::specs::gcm#Fits).
     ///
     /// </details>
     pub fn seal_in_place_append_tag<B: InOut>(
@@ -235,7 +240,8 @@ impl Xaes256Gcm {
     /// ensures refused { OnErr result (out.new ≡ out.old) }
     /// ```
     ///
-    /// Definitions: [`Fits`](aead_ciphers::specs::gcm#Fits), [`aad_bytes`](aead_ciphers_base::specs::values#aad_bytes), [`xaes_encrypted`](crate::specs::xaes#xaes_encrypted), [`xaes_tag`](crate::specs::xaes#xaes_tag).
+    /// Definitions: [`Fits`](aead_ciphers::specs::gcm#Fits), [`aad_bytes`](aead_ciphers_base::specs::values#aad_bytes),
+    /// [`xaes_encrypted`](crate::specs::xaes#xaes_encrypted), [`xaes_tag`](crate::specs::xaes#xaes_tag).
     ///
     /// </details>
     pub fn seal_to(
@@ -264,12 +270,14 @@ impl Xaes256Gcm {
     /// <details><summary>Contract</summary>
     ///
     /// ```text
-    /// ensures opened { XaesOpened self.now nonce (aad_bytes aad.entry) tag ciphertext.start in_out.old (is_ok result) in_out.new }
+    /// ensures opened { XaesOpened self.now nonce (aad_bytes aad.entry) tag ciphertext.start
+    ///     in_out.old (is_ok result) in_out.new }
     /// ensures count { IfOk result (λ n. n ≡ length in_out.old - ciphertext.start) }
     /// ensures refused { OnErr result (in_out.new ≡ in_out.old) }
     /// ```
     ///
-    /// Definitions: [`XaesOpened`](crate::specs::xaes#XaesOpened), [`aad_bytes`](aead_ciphers_base::specs::values#aad_bytes).
+    /// Definitions: [`XaesOpened`](crate::specs::xaes#XaesOpened),
+    /// [`aad_bytes`](aead_ciphers_base::specs::values#aad_bytes).
     ///
     /// </details>
     pub fn open_in_place_separate_tag_to_front(
@@ -300,12 +308,14 @@ impl Xaes256Gcm {
     /// <details><summary>Contract</summary>
     ///
     /// ```text
-    /// ensures opened { XaesOpenedAttached self.now nonce (aad_bytes aad.entry) ciphertext_and_tag.start in_out.old (is_ok result) in_out.new }
+    /// ensures opened { XaesOpenedAttached self.now nonce (aad_bytes aad.entry) ciphertext_and_tag.start
+    ///     in_out.old (is_ok result) in_out.new }
     /// ensures count { IfOk result (λ n. n ≡ length in_out.old - tag_len - ciphertext_and_tag.start) }
     /// ensures refused { OnErr result (in_out.new ≡ in_out.old) }
     /// ```
     ///
-    /// Definitions: [`XaesOpenedAttached`](crate::specs::xaes#XaesOpenedAttached), [`aad_bytes`](aead_ciphers_base::specs::values#aad_bytes), [`tag_len`](aead_ciphers::specs::gcm#tag_len).
+    /// Definitions: [`XaesOpenedAttached`](crate::specs::xaes#XaesOpenedAttached),
+    /// [`aad_bytes`](aead_ciphers_base::specs::values#aad_bytes), [`tag_len`](aead_ciphers::specs::gcm#tag_len).
     ///
     /// </details>
     pub fn open_within_to_front(
@@ -325,12 +335,14 @@ impl Xaes256Gcm {
     /// <details><summary>Contract</summary>
     ///
     /// ```text
-    /// ensures opened { XaesOpenedAttached self.now nonce (aad_bytes aad.entry) 0 in_out.old (is_ok result) in_out.new }
+    /// ensures opened { XaesOpenedAttached self.now nonce (aad_bytes aad.entry) 0
+    ///     in_out.old (is_ok result) in_out.new }
     /// ensures count { IfOk result (λ n. n ≡ length in_out.old - tag_len) }
     /// ensures refused { OnErr result (in_out.new ≡ in_out.old) }
     /// ```
     ///
-    /// Definitions: [`XaesOpenedAttached`](crate::specs::xaes#XaesOpenedAttached), [`aad_bytes`](aead_ciphers_base::specs::values#aad_bytes), [`tag_len`](aead_ciphers::specs::gcm#tag_len).
+    /// Definitions: [`XaesOpenedAttached`](crate::specs::xaes#XaesOpenedAttached),
+    /// [`aad_bytes`](aead_ciphers_base::specs::values#aad_bytes), [`tag_len`](aead_ciphers::specs::gcm#tag_len).
     ///
     /// </details>
     pub fn open_in_place_to_front(
@@ -357,12 +369,14 @@ impl Xaes256Gcm {
     ///
     /// ```text
     /// requires { length out.old ≡ length ciphertext.now }
-    /// ensures accepted { IsOk result ↔ (Fits (length (aad_bytes aad.entry)) (length ciphertext.now) × (tag ≡ xaes_tag self.now nonce (aad_bytes aad.entry) ciphertext.now)) }
+    /// ensures accepted { IsOk result ↔ (Fits (length (aad_bytes aad.entry)) (length ciphertext.now)
+    ///     × (tag ≡ xaes_tag self.now nonce (aad_bytes aad.entry) ciphertext.now)) }
     /// ensures plaintext { OnOk result (out.new ≡ xaes_decrypted self.now nonce ciphertext.now) }
     /// ensures refused { OnErr result (out.new ≡ out.old) }
     /// ```
     ///
-    /// Definitions: [`Fits`](aead_ciphers::specs::gcm#Fits), [`aad_bytes`](aead_ciphers_base::specs::values#aad_bytes), [`xaes_tag`](crate::specs::xaes#xaes_tag), [`xaes_decrypted`](crate::specs::xaes#xaes_decrypted).
+    /// Definitions: [`Fits`](aead_ciphers::specs::gcm#Fits), [`aad_bytes`](aead_ciphers_base::specs::values#aad_bytes),
+    /// [`xaes_tag`](crate::specs::xaes#xaes_tag), [`xaes_decrypted`](crate::specs::xaes#xaes_decrypted).
     ///
     /// </details>
     pub fn open_to(

@@ -76,6 +76,7 @@ impl XNonce {
     }
 
     /// The first half, for which the key of the message is derived.
+    // ensures { result ≡ take 12 self.now }
     #[inline(always)]
     pub(crate) fn context(&self) -> Context {
         let mut context = [0; CONTEXT_LEN];
@@ -84,6 +85,7 @@ impl XNonce {
     }
 
     /// The last half, which is the nonce of AES-256-GCM.
+    // ensures { result ≡ drop 12 self.now }
     #[inline(always)]
     pub(crate) fn message_nonce(&self) -> Nonce {
         let (_, last) = self.bytes.split_at(CONTEXT_LEN);

@@ -87,7 +87,8 @@ impl Algorithm {
     /// ensures bytes { IfOk result (λ key. key_bytes key ≡ bytes.now) }
     /// ```
     ///
-    /// Definitions: [`key_len`](crate::specs::algorithm#key_len), [`key_bytes`](aead_ciphers_base::specs::key_bytes#key_bytes).
+    /// Definitions: [`key_len`](crate::specs::algorithm#key_len),
+    /// [`key_bytes`](aead_ciphers_base::specs::key_bytes#key_bytes).
     ///
     /// </details>
     pub fn key_bytes<'a>(&self, bytes: &'a [u8]) -> Result<KeyBytes<'a>, Unspecified> {

@@ -40,7 +40,8 @@ impl CounterSequence {
     ///
     /// ```text
     /// ensures accepted { IsOk result ↔ (first + count ≤ 2 ^ 64) }
-    /// ensures made { IfOk result (λ sequence. sequence ≡ record { fixed = prefix; first = first; count = count; used = 0 }) }
+    /// ensures made { IfOk result (λ sequence. sequence
+    ///     ≡ record { fixed = prefix; first = first; count = count; used = 0 }) }
     /// ```
     ///
     /// </details>
@@ -58,6 +59,7 @@ impl CounterSequence {
 }
 
 /// Returns the nonce of `prefix` and `number`.
+// ensures { result ≡ prefixed_nonce prefix.now number }
 fn prefixed(prefix: &[u8; 4], number: u64) -> Nonce {
     let mut bytes = [0; NONCE_LEN];
     bytes[..4].copy_from_slice(prefix);

@@ -77,8 +77,8 @@ pub trait InOut {
     /// <details><summary>Contract</summary>
     ///
     /// ```text
-    /// ensures* writes_back { sem 𝓛 (Lends Self.row (Array byte 0) self.entry result (with_bytes self.old)) }
     /// ensures value { result.now ≡ bytes self.old }
+    /// ensures* writes_back { sem 𝓛 (Lends Self.row (Array byte 0) self.entry result (with_bytes self.old)) }
     /// ```
     ///
     /// </details>

@@ -5,6 +5,13 @@ use aead_ciphers_base::error::Unspecified;
 
 /// Returns the plaintext, which is at the front of the buffer, as a mutable slice, or the error of `opened`. `loan` is
 /// what the buffer held before the call that opened it, and the length of the plaintext.
+// ghost loan: { List ℕ × ℕ }
+// requires { Stands loan.1 loan.0 in_out.old opened }
+// ensures accepted { is_ok opened ≡ is_ok result }
+// ensures buffer { in_out.old ≡ lent_buffer result loan.0 }
+// ensures length { IfOk result (λ part. length part.now ≡ loan.1) }
+// ensures* writes_back { sem 𝓛 (LendsIfOk (Array byte 0) (Array byte 0) in_out.entry result
+//     (λ w. w ++ drop loan.1 loan.0) loan.0) }
 pub(crate) fn lend_plaintext(
     in_out: &mut [u8],
     opened: Result<usize, Unspecified>,
@@ -25,9 +32,10 @@ pub(crate) fn lend_plaintext(
 ///
 /// ```text
 /// requires { IfOk opened (λ n. n ≤ length in_out.old) }
-/// ensures* writes_back { sem 𝓛 (LendsBothIf (Array byte 0) (Array byte 0) (Array byte 0) in_out.entry result ◌++◌ in_out.old) }
 /// ensures accepted { IsSome result ↔ IsOk opened }
-/// ensures value { IfSome result (λ parts. (parts.0.now ≡ take (count_of opened) in_out.old) × (parts.1.now ≡ drop (count_of opened) in_out.old)) }
+/// ensures value { IfSome result (λ parts. (parts.0.now ≡ take (count_of opened) in_out.old)
+///     × (parts.1.now ≡ drop (count_of opened) in_out.old)) }
+/// ensures* writes_back { sem 𝓛 (LendsBothIf (Array byte 0) (Array byte 0) (Array byte 0) in_out.entry result ◌++◌ in_out.old) }
 /// ```
 ///
 /// Definitions: [`count_of`](crate::specs::lending#count_of).

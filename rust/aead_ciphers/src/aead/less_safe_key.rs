@@ -117,7 +117,9 @@ impl<K: GcmKey> LessSafeKey<K> {
     /// ensures refused { OnErr result (in_out.new ≡ in_out.old) }
     /// ```
     ///
-    /// Definitions: [`Fits`](crate::specs::gcm#Fits), [`aad_bytes`](aead_ciphers_base::specs::values#aad_bytes), [`gcm_encrypted`](crate::specs::gcm#gcm_encrypted), [`aes`](aead_ciphers_base::specs::aes#aes), [`gcm_tag`](crate::specs::gcm#gcm_tag).
+    /// Definitions: [`Fits`](crate::specs::gcm#Fits), [`aad_bytes`](aead_ciphers_base::specs::values#aad_bytes),
+    /// [`gcm_encrypted`](crate::specs::gcm#gcm_encrypted), [`aes`](aead_ciphers_base::specs::aes#aes),
+    /// [`gcm_tag`](crate::specs::gcm#gcm_tag).
     ///
     /// </details>
     pub fn seal_in_place_separate_tag(
@@ -144,15 +146,19 @@ impl<K: GcmKey> LessSafeKey<K> {
     /// <details><summary>Contract</summary>
     ///
     /// ```text
-    /// ensures sealed { OnOk result (B.bytes in_out.new ≡ gcm_sealed (aes self.now.bytes) nonce (aad_bytes aad.entry) (B.bytes in_out.old)) }
+    /// ensures sealed { OnOk result (B.bytes in_out.new
+    ///     ≡ gcm_sealed (aes self.now.bytes) nonce (aad_bytes aad.entry) (B.bytes in_out.old)) }
     /// ensures refused { OnErr result (B.bytes in_out.new ≡ B.bytes in_out.old) }
     /// ensures length { OnOk result (length (B.bytes in_out.new) ≡ length (B.bytes in_out.old) + tag_len) }
     /// ensures granted { IsOk result → B.may_grant in_out.old }
     /// ensures fits { IsOk result → Fits (length (aad_bytes aad.entry)) (length (B.bytes in_out.old)) }
-    /// ensures refuses { OnErr result (Fits (length (aad_bytes aad.entry)) (length (B.bytes in_out.old)) → B.may_refuse in_out.old) }
+    /// ensures refuses { OnErr result (Fits (length (aad_bytes aad.entry)) (length (B.bytes in_out.old))
+    ///     → B.may_refuse in_out.old) }
     /// ```
     ///
-    /// Definitions: [`gcm_sealed`](crate::specs::gcm#gcm_sealed), [`aes`](aead_ciphers_base::specs::aes#aes), [`aad_bytes`](aead_ciphers_base::specs::values#aad_bytes), [`tag_len`](crate::specs::gcm#tag_len), [`Fits`](crate::specs::gcm#Fits).
+    /// Definitions: [`gcm_sealed`](crate::specs::gcm#gcm_sealed), [`aes`](aead_ciphers_base::specs::aes#aes),
+    /// [`aad_bytes`](aead_ciphers_base::specs::values#aad_bytes), [`tag_len`](crate::specs::gcm#tag_len),
+    /// [`Fits`](crate::specs::gcm#Fits).
     ///
     /// </details>
     pub fn seal_in_place_append_tag<B: InOut>(
@@ -167,6 +173,13 @@ impl<K: GcmKey> LessSafeKey<K> {
 
     /// Encrypts all but the last 16 bytes in place, and overwrites those with the tag. If the lengths exceed the limits
     /// of `seal_in_place_separate_tag`, fails with `Unspecified` and removes those 16 bytes.
+    // requires { tag_len ≤ length (B.bytes in_out.old) }
+    // ensures accepted { IsOk result ↔ Fits (length (aad_bytes aad.entry)) (length (B.bytes in_out.old) - tag_len) }
+    // ensures sealed { let message = take (length (B.bytes in_out.old) - tag_len) (B.bytes in_out.old) in
+    //     OnOk result (B.bytes in_out.new ≡ gcm_sealed (aes self.now.bytes) nonce (aad_bytes aad.entry) message) }
+    // ensures length { OnOk result (length (B.bytes in_out.new) ≡ length (B.bytes in_out.old)) }
+    // ensures kept { let message = take (length (B.bytes in_out.old) - tag_len) (B.bytes in_out.old) in
+    //     OnErr result (B.bytes in_out.new ≡ message) }
     pub(crate) fn seal_with_room<B: InOut>(
         &self,
         nonce: Nonce,
@@ -204,7 +217,8 @@ impl<K: GcmKey> LessSafeKey<K> {
     /// ensures refused { OnErr result (packet.new ≡ packet.old) }
     /// ```
     ///
-    /// Definitions: [`PacketFits`](crate::specs::packet#PacketFits), [`sealed_packet`](crate::specs::packet#sealed_packet).
+    /// Definitions: [`PacketFits`](crate::specs::packet#PacketFits),
+    /// [`sealed_packet`](crate::specs::packet#sealed_packet).
     ///
     /// </details>
     pub fn seal_packet_in_place(
@@ -240,12 +254,16 @@ impl<K: GcmKey> LessSafeKey<K> {
     /// <details><summary>Contract</summary>
     ///
     /// ```text
+    /// ensures opened { Opened (aes self.now.bytes) nonce (aad_bytes aad.entry) tag ciphertext.start
+    ///     in_out.old (is_ok result) (lent_buffer result in_out.old) }
+    /// ensures plaintext { IfOk result (λ plaintext. plaintext.now
+    ///     ≡ gcm_decrypted (aes self.now.bytes) nonce (drop ciphertext.start in_out.old)) }
     /// ensures* writes_back { sem 𝓛 (LendsFront in_out.entry result (length in_out.old - ciphertext.start)) }
-    /// ensures opened { Opened (aes self.now.bytes) nonce (aad_bytes aad.entry) tag ciphertext.start in_out.old (is_ok result) (lent_buffer result in_out.old) }
-    /// ensures plaintext { IfOk result (λ plaintext. plaintext.now ≡ gcm_decrypted (aes self.now.bytes) nonce (drop ciphertext.start in_out.old)) }
     /// ```
     ///
-    /// Definitions: [`LendsFront`](crate::specs::lending#LendsFront), [`Opened`](crate::specs::gcm#Opened), [`aes`](aead_ciphers_base::specs::aes#aes), [`aad_bytes`](aead_ciphers_base::specs::values#aad_bytes), [`lent_buffer`](crate::specs::lending#lent_buffer), [`gcm_decrypted`](crate::specs::gcm#gcm_decrypted).
+    /// Definitions: [`Opened`](crate::specs::gcm#Opened), [`aes`](aead_ciphers_base::specs::aes#aes),
+    /// [`aad_bytes`](aead_ciphers_base::specs::values#aad_bytes), [`lent_buffer`](crate::specs::lending#lent_buffer),
+    /// [`gcm_decrypted`](crate::specs::gcm#gcm_decrypted), [`LendsFront`](crate::specs::lending#LendsFront).
     ///
     /// </details>
     pub fn open_in_place_separate_tag<'a>(
@@ -266,12 +284,14 @@ impl<K: GcmKey> LessSafeKey<K> {
     /// <details><summary>Contract</summary>
     ///
     /// ```text
-    /// ensures opened { Opened (aes self.now.bytes) nonce (aad_bytes aad.entry) tag ciphertext.start in_out.old (is_ok result) in_out.new }
+    /// ensures opened { Opened (aes self.now.bytes) nonce (aad_bytes aad.entry) tag ciphertext.start
+    ///     in_out.old (is_ok result) in_out.new }
     /// ensures count { IfOk result (λ n. n ≡ length in_out.old - ciphertext.start) }
     /// ensures refused { OnErr result (in_out.new ≡ in_out.old) }
     /// ```
     ///
-    /// Definitions: [`Opened`](crate::specs::gcm#Opened), [`aes`](aead_ciphers_base::specs::aes#aes), [`aad_bytes`](aead_ciphers_base::specs::values#aad_bytes).
+    /// Definitions: [`Opened`](crate::specs::gcm#Opened), [`aes`](aead_ciphers_base::specs::aes#aes),
+    /// [`aad_bytes`](aead_ciphers_base::specs::values#aad_bytes).
     ///
     /// </details>
     pub fn open_in_place_separate_tag_to_front(
@@ -303,12 +323,18 @@ impl<K: GcmKey> LessSafeKey<K> {
     /// <details><summary>Contract</summary>
     ///
     /// ```text
+    /// ensures opened { OpenedAttached (aes self.now.bytes) nonce (aad_bytes aad.entry) ciphertext_and_tag.start
+    ///     in_out.old (is_ok result) (lent_buffer result in_out.old) }
+    /// ensures plaintext { IfOk result (λ plaintext. plaintext.now
+    ///     ≡ gcm_decrypted (aes self.now.bytes) nonce
+    ///     (drop ciphertext_and_tag.start (take (length in_out.old - tag_len) in_out.old))) }
     /// ensures* writes_back { sem 𝓛 (LendsFront in_out.entry result (length in_out.old - tag_len - ciphertext_and_tag.start)) }
-    /// ensures opened { OpenedAttached (aes self.now.bytes) nonce (aad_bytes aad.entry) ciphertext_and_tag.start in_out.old (is_ok result) (lent_buffer result in_out.old) }
-    /// ensures plaintext { IfOk result (λ plaintext. plaintext.now ≡ gcm_decrypted (aes self.now.bytes) nonce (drop ciphertext_and_tag.start (take (length in_out.old - tag_len) in_out.old))) }
     /// ```
     ///
-    /// Definitions: [`LendsFront`](crate::specs::lending#LendsFront), [`tag_len`](crate::specs::gcm#tag_len), [`OpenedAttached`](crate::specs::gcm#OpenedAttached), [`aes`](aead_ciphers_base::specs::aes#aes), [`aad_bytes`](aead_ciphers_base::specs::values#aad_bytes), [`lent_buffer`](crate::specs::lending#lent_buffer), [`gcm_decrypted`](crate::specs::gcm#gcm_decrypted).
+    /// Definitions: [`OpenedAttached`](crate::specs::gcm#OpenedAttached), [`aes`](aead_ciphers_base::specs::aes#aes),
+    /// [`aad_bytes`](aead_ciphers_base::specs::values#aad_bytes), [`lent_buffer`](crate::specs::lending#lent_buffer),
+    /// [`gcm_decrypted`](crate::specs::gcm#gcm_decrypted), [`tag_len`](crate::specs::gcm#tag_len),
+    /// [`LendsFront`](crate::specs::lending#LendsFront).
     ///
     /// </details>
     pub fn open_within<'a>(
@@ -328,12 +354,14 @@ impl<K: GcmKey> LessSafeKey<K> {
     /// <details><summary>Contract</summary>
     ///
     /// ```text
-    /// ensures opened { OpenedAttached (aes self.now.bytes) nonce (aad_bytes aad.entry) ciphertext_and_tag.start in_out.old (is_ok result) in_out.new }
+    /// ensures opened { OpenedAttached (aes self.now.bytes) nonce (aad_bytes aad.entry) ciphertext_and_tag.start
+    ///     in_out.old (is_ok result) in_out.new }
     /// ensures count { IfOk result (λ n. n ≡ length in_out.old - tag_len - ciphertext_and_tag.start) }
     /// ensures refused { OnErr result (in_out.new ≡ in_out.old) }
     /// ```
     ///
-    /// Definitions: [`OpenedAttached`](crate::specs::gcm#OpenedAttached), [`aes`](aead_ciphers_base::specs::aes#aes), [`aad_bytes`](aead_ciphers_base::specs::values#aad_bytes), [`tag_len`](crate::specs::gcm#tag_len).
+    /// Definitions: [`OpenedAttached`](crate::specs::gcm#OpenedAttached), [`aes`](aead_ciphers_base::specs::aes#aes),
+    /// [`aad_bytes`](aead_ciphers_base::specs::values#aad_bytes), [`tag_len`](crate::specs::gcm#tag_len).
     ///
     /// </details>
     pub fn open_within_to_front(
@@ -362,12 +390,17 @@ impl<K: GcmKey> LessSafeKey<K> {
     /// <details><summary>Contract</summary>
     ///
     /// ```text
+    /// ensures opened { OpenedAttached (aes self.now.bytes) nonce (aad_bytes aad.entry) 0
+    ///     in_out.old (is_ok result) (lent_buffer result in_out.old) }
+    /// ensures plaintext { IfOk result (λ plaintext. plaintext.now
+    ///     ≡ gcm_decrypted (aes self.now.bytes) nonce (take (length in_out.old - tag_len) in_out.old)) }
     /// ensures* writes_back { sem 𝓛 (LendsFront in_out.entry result (length in_out.old - tag_len)) }
-    /// ensures opened { OpenedAttached (aes self.now.bytes) nonce (aad_bytes aad.entry) 0 in_out.old (is_ok result) (lent_buffer result in_out.old) }
-    /// ensures plaintext { IfOk result (λ plaintext. plaintext.now ≡ gcm_decrypted (aes self.now.bytes) nonce (take (length in_out.old - tag_len) in_out.old)) }
     /// ```
     ///
-    /// Definitions: [`LendsFront`](crate::specs::lending#LendsFront), [`tag_len`](crate::specs::gcm#tag_len), [`OpenedAttached`](crate::specs::gcm#OpenedAttached), [`aes`](aead_ciphers_base::specs::aes#aes), [`aad_bytes`](aead_ciphers_base::specs::values#aad_bytes), [`lent_buffer`](crate::specs::lending#lent_buffer), [`gcm_decrypted`](crate::specs::gcm#gcm_decrypted).
+    /// Definitions: [`OpenedAttached`](crate::specs::gcm#OpenedAttached), [`aes`](aead_ciphers_base::specs::aes#aes),
+    /// [`aad_bytes`](aead_ciphers_base::specs::values#aad_bytes), [`lent_buffer`](crate::specs::lending#lent_buffer),
+    /// [`gcm_decrypted`](crate::specs::gcm#gcm_decrypted), [`tag_len`](crate::specs::gcm#tag_len),
+    /// [`LendsFront`](crate::specs::lending#LendsFront).
     ///
     /// </details>
     pub fn open_in_place<'a>(
@@ -386,12 +419,14 @@ impl<K: GcmKey> LessSafeKey<K> {
     /// <details><summary>Contract</summary>
     ///
     /// ```text
-    /// ensures opened { OpenedAttached (aes self.now.bytes) nonce (aad_bytes aad.entry) 0 in_out.old (is_ok result) in_out.new }
+    /// ensures opened { OpenedAttached (aes self.now.bytes) nonce (aad_bytes aad.entry) 0
+    ///     in_out.old (is_ok result) in_out.new }
     /// ensures count { IfOk result (λ n. n ≡ length in_out.old - tag_len) }
     /// ensures refused { OnErr result (in_out.new ≡ in_out.old) }
     /// ```
     ///
-    /// Definitions: [`OpenedAttached`](crate::specs::gcm#OpenedAttached), [`aes`](aead_ciphers_base::specs::aes#aes), [`aad_bytes`](aead_ciphers_base::specs::values#aad_bytes), [`tag_len`](crate::specs::gcm#tag_len).
+    /// Definitions: [`OpenedAttached`](crate::specs::gcm#OpenedAttached), [`aes`](aead_ciphers_base::specs::aes#aes),
+    /// [`aad_bytes`](aead_ciphers_base::specs::values#aad_bytes), [`tag_len`](crate::specs::gcm#tag_len).
     ///
     /// </details>
     pub fn open_in_place_to_front(
@@ -420,12 +455,15 @@ impl<K: GcmKey> LessSafeKey<K> {
     ///
     /// ```text
     /// requires { length out.old ≡ length ciphertext.now }
-    /// ensures accepted { IsOk result ↔ (Fits (length (aad_bytes aad.entry)) (length ciphertext.now) × (tag ≡ gcm_tag (aes self.now.bytes) nonce (aad_bytes aad.entry) ciphertext.now)) }
+    /// ensures accepted { IsOk result ↔ (Fits (length (aad_bytes aad.entry)) (length ciphertext.now)
+    ///     × (tag ≡ gcm_tag (aes self.now.bytes) nonce (aad_bytes aad.entry) ciphertext.now)) }
     /// ensures plaintext { OnOk result (out.new ≡ gcm_decrypted (aes self.now.bytes) nonce ciphertext.now) }
     /// ensures refused { OnErr result (out.new ≡ out.old) }
     /// ```
     ///
-    /// Definitions: [`Fits`](crate::specs::gcm#Fits), [`aad_bytes`](aead_ciphers_base::specs::values#aad_bytes), [`gcm_tag`](crate::specs::gcm#gcm_tag), [`aes`](aead_ciphers_base::specs::aes#aes), [`gcm_decrypted`](crate::specs::gcm#gcm_decrypted).
+    /// Definitions: [`Fits`](crate::specs::gcm#Fits), [`aad_bytes`](aead_ciphers_base::specs::values#aad_bytes),
+    /// [`gcm_tag`](crate::specs::gcm#gcm_tag), [`aes`](aead_ciphers_base::specs::aes#aes),
+    /// [`gcm_decrypted`](crate::specs::gcm#gcm_decrypted).
     ///
     /// </details>
     pub fn open_to(

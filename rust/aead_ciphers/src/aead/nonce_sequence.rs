@@ -61,7 +61,8 @@ pub trait NonceSequence {
     /// <details><summary>Contract</summary>
     ///
     /// ```text
-    /// ensures ok { IfOk result (λ nonce. Appends (spent self.old) (spent self.new) (is_closed self.old) nonce) }
+    /// ensures ok { IfOk result (λ nonce.
+    ///     Appends (spent self.old) (spent self.new) (is_closed self.old) nonce) }
     /// ensures err { OnErr result (Closes (spent self.old) (spent self.new) (is_closed self.new)) }
     /// ensures origin_kept { origin self.new ≡ origin self.old }
     /// ensures gives { OnOk result (gives self.old self.new) }
@@ -69,7 +70,8 @@ pub trait NonceSequence {
     /// ensures next { IfOk result (λ nonce. UnderNext (is_next self.old) (λ next. nonce ≡ next)) }
     /// ```
     ///
-    /// Definitions: [`Appends`](crate::specs::nonce_sequence#Appends), [`Closes`](crate::specs::nonce_sequence#Closes), [`UnderNext`](crate::specs::nonce_sequence#UnderNext).
+    /// Definitions: [`Appends`](crate::specs::nonce_sequence#Appends), [`Closes`](crate::specs::nonce_sequence#Closes),
+    /// [`UnderNext`](crate::specs::nonce_sequence#UnderNext).
     ///
     /// </details>
     fn advance(&mut self) -> Result<Nonce, Unspecified>;

@@ -47,11 +47,13 @@ impl<K: GcmKey, N: NonceSequence> OpeningKey<K, N> {
     /// <details><summary>Contract</summary>
     ///
     /// ```text
-    /// ensures call { OpeningCall N.spent N.is_closed N.origin N.gives N.refuses N.is_next self.old self.new (aad_bytes aad.entry) ciphertext_and_tag.start in_out.old in_out.new result }
+    /// ensures call { OpeningCall N.spent N.is_closed N.origin N.gives N.refuses N.is_next self.old self.new
+    ///     (aad_bytes aad.entry) ciphertext_and_tag.start in_out.old in_out.new result }
     /// ensures count { IfOk result (λ n. n ≡ length in_out.old - tag_len - ciphertext_and_tag.start) }
     /// ```
     ///
-    /// Definitions: [`OpeningCall`](crate::specs::bound_calls#OpeningCall), [`aad_bytes`](aead_ciphers_base::specs::values#aad_bytes), [`tag_len`](crate::specs::gcm#tag_len).
+    /// Definitions: [`OpeningCall`](crate::specs::bound_calls#OpeningCall),
+    /// [`aad_bytes`](aead_ciphers_base::specs::values#aad_bytes), [`tag_len`](crate::specs::gcm#tag_len).
     ///
     /// </details>
     pub fn open_within_to_front(
@@ -71,11 +73,13 @@ impl<K: GcmKey, N: NonceSequence> OpeningKey<K, N> {
     /// <details><summary>Contract</summary>
     ///
     /// ```text
-    /// ensures call { OpeningCall N.spent N.is_closed N.origin N.gives N.refuses N.is_next self.old self.new (aad_bytes aad.entry) 0 in_out.old in_out.new result }
+    /// ensures call { OpeningCall N.spent N.is_closed N.origin N.gives N.refuses N.is_next self.old self.new
+    ///     (aad_bytes aad.entry) 0 in_out.old in_out.new result }
     /// ensures count { IfOk result (λ n. n ≡ length in_out.old - tag_len) }
     /// ```
     ///
-    /// Definitions: [`OpeningCall`](crate::specs::bound_calls#OpeningCall), [`aad_bytes`](aead_ciphers_base::specs::values#aad_bytes), [`tag_len`](crate::specs::gcm#tag_len).
+    /// Definitions: [`OpeningCall`](crate::specs::bound_calls#OpeningCall),
+    /// [`aad_bytes`](aead_ciphers_base::specs::values#aad_bytes), [`tag_len`](crate::specs::gcm#tag_len).
     ///
     /// </details>
     pub fn open_in_place_to_front(
@@ -102,13 +106,22 @@ impl<K: GcmKey, N: NonceSequence> OpeningKey<K, N> {
     /// <details><summary>Contract</summary>
     ///
     /// ```text
-    /// ensures* writes_back { sem 𝓛 (LendsFront in_out.entry result (length in_out.old - tag_len - ciphertext_and_tag.start)) }
-    /// ensures call { OpeningCall N.spent N.is_closed N.origin N.gives N.refuses N.is_next self.old self.new (aad_bytes aad.entry) ciphertext_and_tag.start in_out.old (lent_buffer result in_out.old) result }
-    /// ensures count { IfOk result (λ plaintext. length plaintext.now ≡ length in_out.old - tag_len - ciphertext_and_tag.start) }
-    /// ensures plaintext { IfOk result (λ plaintext. UnderNext (N.is_next self.old.sequence) (λ nonce. plaintext.now ≡ gcm_decrypted (aes self.old.key.bytes) nonce (drop ciphertext_and_tag.start (take (length in_out.old - tag_len) in_out.old)))) }
+    /// ensures call { OpeningCall N.spent N.is_closed N.origin N.gives N.refuses N.is_next self.old self.new
+    ///     (aad_bytes aad.entry) ciphertext_and_tag.start in_out.old (lent_buffer result in_out.old) result }
+    /// ensures count { IfOk result (λ plaintext.
+    ///     length plaintext.now ≡ length in_out.old - tag_len - ciphertext_and_tag.start) }
+    /// ensures plaintext { IfOk result (λ plaintext. UnderNext (N.is_next self.old.sequence) (λ nonce. plaintext.now
+    ///     ≡ gcm_decrypted (aes self.old.key.bytes) nonce
+    ///     (drop ciphertext_and_tag.start (take (length in_out.old - tag_len) in_out.old)))) }
+    /// ensures* writes_back { sem 𝓛 (LendsFront in_out.entry result
+    ///     (length in_out.old - tag_len - ciphertext_and_tag.start)) }
     /// ```
     ///
-    /// Definitions: [`LendsFront`](crate::specs::lending#LendsFront), [`tag_len`](crate::specs::gcm#tag_len), [`OpeningCall`](crate::specs::bound_calls#OpeningCall), [`aad_bytes`](aead_ciphers_base::specs::values#aad_bytes), [`lent_buffer`](crate::specs::lending#lent_buffer), [`UnderNext`](crate::specs::nonce_sequence#UnderNext), [`gcm_decrypted`](crate::specs::gcm#gcm_decrypted), [`aes`](aead_ciphers_base::specs::aes#aes).
+    /// Definitions: [`OpeningCall`](crate::specs::bound_calls#OpeningCall),
+    /// [`aad_bytes`](aead_ciphers_base::specs::values#aad_bytes), [`lent_buffer`](crate::specs::lending#lent_buffer),
+    /// [`tag_len`](crate::specs::gcm#tag_len), [`UnderNext`](crate::specs::nonce_sequence#UnderNext),
+    /// [`gcm_decrypted`](crate::specs::gcm#gcm_decrypted), [`aes`](aead_ciphers_base::specs::aes#aes),
+    /// [`LendsFront`](crate::specs::lending#LendsFront).
     ///
     /// </details>
     pub fn open_within<'a>(
@@ -126,13 +139,19 @@ impl<K: GcmKey, N: NonceSequence> OpeningKey<K, N> {
     /// <details><summary>Contract</summary>
     ///
     /// ```text
-    /// ensures* writes_back { sem 𝓛 (LendsFront in_out.entry result (length in_out.old - tag_len)) }
-    /// ensures call { OpeningCall N.spent N.is_closed N.origin N.gives N.refuses N.is_next self.old self.new (aad_bytes aad.entry) 0 in_out.old (lent_buffer result in_out.old) result }
+    /// ensures call { OpeningCall N.spent N.is_closed N.origin N.gives N.refuses N.is_next self.old self.new
+    ///     (aad_bytes aad.entry) 0 in_out.old (lent_buffer result in_out.old) result }
     /// ensures count { IfOk result (λ plaintext. length plaintext.now ≡ length in_out.old - tag_len) }
-    /// ensures plaintext { IfOk result (λ plaintext. UnderNext (N.is_next self.old.sequence) (λ nonce. plaintext.now ≡ gcm_decrypted (aes self.old.key.bytes) nonce (take (length in_out.old - tag_len) in_out.old))) }
+    /// ensures plaintext { IfOk result (λ plaintext. UnderNext (N.is_next self.old.sequence) (λ nonce.
+    ///     plaintext.now ≡ gcm_decrypted (aes self.old.key.bytes) nonce (take (length in_out.old - tag_len) in_out.old))) }
+    /// ensures* writes_back { sem 𝓛 (LendsFront in_out.entry result (length in_out.old - tag_len)) }
     /// ```
     ///
-    /// Definitions: [`LendsFront`](crate::specs::lending#LendsFront), [`tag_len`](crate::specs::gcm#tag_len), [`OpeningCall`](crate::specs::bound_calls#OpeningCall), [`aad_bytes`](aead_ciphers_base::specs::values#aad_bytes), [`lent_buffer`](crate::specs::lending#lent_buffer), [`UnderNext`](crate::specs::nonce_sequence#UnderNext), [`gcm_decrypted`](crate::specs::gcm#gcm_decrypted), [`aes`](aead_ciphers_base::specs::aes#aes).
+    /// Definitions: [`OpeningCall`](crate::specs::bound_calls#OpeningCall),
+    /// [`aad_bytes`](aead_ciphers_base::specs::values#aad_bytes), [`lent_buffer`](crate::specs::lending#lent_buffer),
+    /// [`tag_len`](crate::specs::gcm#tag_len), [`UnderNext`](crate::specs::nonce_sequence#UnderNext),
+    /// [`gcm_decrypted`](crate::specs::gcm#gcm_decrypted), [`aes`](aead_ciphers_base::specs::aes#aes),
+    /// [`LendsFront`](crate::specs::lending#LendsFront).
     ///
     /// </details>
     pub fn open_in_place<'a>(

@@ -55,13 +55,18 @@ impl<K: GcmKey, N: NonceSequence> SealingKey<K, N> {
     /// <details><summary>Contract</summary>
     ///
     /// ```text
-    /// ensures sealed { OnOk result (UnderNext (N.is_next self.old.sequence) (λ nonce. B.bytes in_out.new ≡ gcm_sealed (aes self.old.key.bytes) nonce (aad_bytes aad.entry) (B.bytes in_out.old))) }
+    /// ensures sealed { OnOk result (UnderNext (N.is_next self.old.sequence) (λ nonce. B.bytes in_out.new
+    ///     ≡ gcm_sealed (aes self.old.key.bytes) nonce (aad_bytes aad.entry) (B.bytes in_out.old))) }
     /// ensures refused { OnErr result (B.bytes in_out.new ≡ B.bytes in_out.old) }
     /// ensures length { OnOk result (length (B.bytes in_out.new) ≡ length (B.bytes in_out.old) + tag_len) }
-    /// ensures call { SealingCall N.spent N.is_closed N.origin N.gives N.refuses (B.may_refuse in_out.old) (B.may_grant in_out.old) self.old self.new (aad_bytes aad.entry) (B.bytes in_out.old) (B.bytes in_out.new) result }
+    /// ensures call { SealingCall N.spent N.is_closed N.origin N.gives N.refuses (B.may_refuse in_out.old)
+    ///     (B.may_grant in_out.old) self.old self.new (aad_bytes aad.entry) (B.bytes in_out.old) (B.bytes in_out.new) result }
     /// ```
     ///
-    /// Definitions: [`UnderNext`](crate::specs::nonce_sequence#UnderNext), [`gcm_sealed`](crate::specs::gcm#gcm_sealed), [`aes`](aead_ciphers_base::specs::aes#aes), [`aad_bytes`](aead_ciphers_base::specs::values#aad_bytes), [`tag_len`](crate::specs::gcm#tag_len), [`SealingCall`](crate::specs::bound_calls#SealingCall).
+    /// Definitions: [`UnderNext`](crate::specs::nonce_sequence#UnderNext),
+    /// [`gcm_sealed`](crate::specs::gcm#gcm_sealed), [`aes`](aead_ciphers_base::specs::aes#aes),
+    /// [`aad_bytes`](aead_ciphers_base::specs::values#aad_bytes), [`tag_len`](crate::specs::gcm#tag_len),
+    /// [`SealingCall`](crate::specs::bound_calls#SealingCall).
     ///
     /// </details>
     pub fn seal_in_place_append_tag<B: InOut>(
@@ -96,13 +101,19 @@ impl<K: GcmKey, N: NonceSequence> SealingKey<K, N> {
     /// <details><summary>Contract</summary>
     ///
     /// ```text
-    /// ensures ciphertext { OnOk result (UnderNext (N.is_next self.old.sequence) (λ nonce. in_out.new ≡ gcm_encrypted (aes self.old.key.bytes) nonce in_out.old)) }
-    /// ensures tag { IfOk result (λ tag. UnderNext (N.is_next self.old.sequence) (λ nonce. tag ≡ gcm_tag (aes self.old.key.bytes) nonce (aad_bytes aad.entry) in_out.new)) }
+    /// ensures ciphertext { OnOk result (UnderNext (N.is_next self.old.sequence) (λ nonce. in_out.new
+    ///     ≡ gcm_encrypted (aes self.old.key.bytes) nonce in_out.old)) }
+    /// ensures tag { IfOk result (λ tag. UnderNext (N.is_next self.old.sequence) (λ nonce. tag
+    ///     ≡ gcm_tag (aes self.old.key.bytes) nonce (aad_bytes aad.entry) in_out.new)) }
     /// ensures refused { OnErr result (in_out.new ≡ in_out.old) }
-    /// ensures call { SealingCall N.spent N.is_closed N.origin N.gives N.refuses ⊥ ⊤ self.old self.new (aad_bytes aad.entry) in_out.old (with_tag in_out.new result) result }
+    /// ensures call { SealingCall N.spent N.is_closed N.origin N.gives N.refuses ⊥ ⊤ self.old self.new
+    ///     (aad_bytes aad.entry) in_out.old (with_tag in_out.new result) result }
     /// ```
     ///
-    /// Definitions: [`UnderNext`](crate::specs::nonce_sequence#UnderNext), [`gcm_encrypted`](crate::specs::gcm#gcm_encrypted), [`aes`](aead_ciphers_base::specs::aes#aes), [`gcm_tag`](crate::specs::gcm#gcm_tag), [`aad_bytes`](aead_ciphers_base::specs::values#aad_bytes), [`SealingCall`](crate::specs::bound_calls#SealingCall), [`with_tag`](crate::specs::steps#with_tag).
+    /// Definitions: [`UnderNext`](crate::specs::nonce_sequence#UnderNext),
+    /// [`gcm_encrypted`](crate::specs::gcm#gcm_encrypted), [`aes`](aead_ciphers_base::specs::aes#aes),
+    /// [`gcm_tag`](crate::specs::gcm#gcm_tag), [`aad_bytes`](aead_ciphers_base::specs::values#aad_bytes),
+    /// [`SealingCall`](crate::specs::bound_calls#SealingCall), [`with_tag`](crate::specs::steps#with_tag).
     ///
     /// </details>
     pub fn seal_in_place_separate_tag(

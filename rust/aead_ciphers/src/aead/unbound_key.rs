@@ -81,6 +81,7 @@ impl UnboundKey {
     }
 
     /// Returns the bytes of the key.
+    // ensures { key_bytes result ≡ self.now.bytes }
     pub(crate) fn key_bytes(&self) -> KeyBytes<'_> {
         match &self.bytes {
             UnboundBytes::AES_128(bytes) => KeyBytes::AES_128(bytes),

@@ -46,7 +46,8 @@ impl XoredSequence {
     ///
     /// ```text
     /// ensures accepted { IsOk result ↔ (first ≤ limit) }
-    /// ensures made { IfOk result (λ sequence. sequence ≡ record { fixed = iv; first = first; count = limit - first; used = 0 }) }
+    /// ensures made { IfOk result (λ sequence. sequence
+    ///     ≡ record { fixed = iv; first = first; count = limit - first; used = 0 }) }
     /// ```
     ///
     /// </details>

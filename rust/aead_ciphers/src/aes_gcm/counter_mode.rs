@@ -15,6 +15,11 @@ pub(super) const BATCH_LEN: usize = 16 * BLOCK_LEN;
 pub(super) const FEW_LEN: usize = 4 * BLOCK_LEN;
 
 /// Encrypts or decrypts the bytes from `start` on to the front of `in_out`, chunk by chunk, and returns how many they are.
+// requires within { start ≤ length in_out.old }
+// requires sums { CanAdd work.old ((length in_out.old - start + 15) / 16) 0 }
+// ensures output { EncryptsToFront (A.cipher aes.now) counter start in_out.old in_out.new }
+// ensures count { result ≡ length in_out.old - start }
+// ensures worked { Adds work.old work.new ((length in_out.old - start + 15) / 16) 0 }
 #[inline(always)]
 pub(super) fn encrypt_within<A: EncryptCtr32>(
     aes: &A,
@@ -39,6 +44,9 @@ pub(super) fn encrypt_within<A: EncryptCtr32>(
 }
 
 /// Returns how many of `len` bytes are encrypted where they are: all if they are whole blocks, otherwise whole batches.
+// ensures aligned { result % 16 ≡ 0 }
+// ensures within { result ≤ len }
+// ensures rest { len < result + BATCH_LEN }
 #[inline(always)]
 pub(super) fn whole_len(len: usize) -> usize {
     if len % BLOCK_LEN == 0 {
@@ -49,6 +57,12 @@ pub(super) fn whole_len(len: usize) -> usize {
 }
 
 /// Encrypts or decrypts the bytes from `start` on, which are whole blocks, to the front of `in_out`.
+// requires within { start ≤ length in_out.old }
+// requires whole { (length in_out.old - start) % 16 ≡ 0 }
+// requires sums { CanAdd work.old ((length in_out.old - start) / 16) 0 }
+// ensures output { EncryptsToFront (A.cipher aes.now) counter.old start in_out.old in_out.new }
+// ensures counter { Advances counter.old counter.new ((length in_out.old - start) / 16) }
+// ensures worked { Adds work.old work.new ((length in_out.old - start) / 16) 0 }
 #[inline(always)]
 pub(super) fn encrypt_blocks<A: EncryptCtr32>(
     aes: &A,
@@ -66,6 +80,11 @@ pub(super) fn encrypt_blocks<A: EncryptCtr32>(
 /// A short last block thus shares a pass with the blocks before it: opening 17 bytes takes 0.71 of the instructions. On
 /// planes of 256 bits, sealing 250 bytes takes 0.72 of the instructions that batches of eight blocks took. Up to four blocks
 /// have a smaller buffer, of which fewer bytes are set to zero.
+// requires within { start ≤ length in_out.old }
+// requires short { length in_out.old < start + BATCH_LEN }
+// requires sums { CanAdd work.old ((length in_out.old - start + 15) / 16) 0 }
+// ensures output { EncryptsToFront (A.cipher aes.now) counter start in_out.old in_out.new }
+// ensures worked { Adds work.old work.new ((length in_out.old - start + 15) / 16) 0 }
 #[inline(always)]
 pub(super) fn encrypt_rest<A: EncryptCtr32>(
     aes: &A,
@@ -86,6 +105,11 @@ pub(super) fn encrypt_rest<A: EncryptCtr32>(
 
 /// Encrypts or decrypts the bytes from `start` on to the front of `in_out`. The work is done in `padded`, which is as long as
 /// these bytes when they are padded to whole blocks.
+// requires within { start ≤ length in_out.old }
+// requires room { length padded.old ≡ (length in_out.old - start + 15) / 16 * 16 }
+// requires sums { CanAdd work.old ((length in_out.old - start + 15) / 16) 0 }
+// ensures output { EncryptsToFront (A.cipher aes.now) counter start in_out.old in_out.new }
+// ensures worked { Adds work.old work.new ((length in_out.old - start + 15) / 16) 0 }
 #[inline(always)]
 fn encrypt_padded<A: EncryptCtr32>(
     aes: &A,

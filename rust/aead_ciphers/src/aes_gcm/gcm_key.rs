@@ -57,7 +57,8 @@ pub trait GcmKey: Clone {
     /// ensures worked { Adds work.old work.new 1 0 }
     /// ```
     ///
-    /// Definitions: [`CanAdd`](aead_ciphers_base::specs::work#CanAdd), [`key_bytes`](aead_ciphers_base::specs::key_bytes#key_bytes), [`Adds`](aead_ciphers_base::specs::work#Adds).
+    /// Definitions: [`CanAdd`](aead_ciphers_base::specs::work#CanAdd),
+    /// [`key_bytes`](aead_ciphers_base::specs::key_bytes#key_bytes), [`Adds`](aead_ciphers_base::specs::work#Adds).
     ///
     /// </details>
     fn expand(&mut self, bytes: KeyBytes<'_>, work: &mut Work);
@@ -75,13 +76,20 @@ pub trait GcmKey: Clone {
     /// requires key { is_expanded self.now }
     /// requires sums { CanSeal work.old (length (aad_bytes aad)) (length in_out.old) }
     /// ensures accepted { IsOk result ↔ Fits (length (aad_bytes aad.entry)) (length in_out.old) }
-    /// ensures ciphertext { OnOk result (in_out.new ≡ gcm_encrypted (aes_cipher (bytes_of self.now)) nonce in_out.old) }
-    /// ensures tag { IfOk result (λ t. t ≡ gcm_tag (aes_cipher (bytes_of self.now)) nonce (aad_bytes aad.entry) in_out.new) }
+    /// ensures ciphertext { OnOk result
+    ///     (in_out.new ≡ gcm_encrypted (aes_cipher (bytes_of self.now)) nonce in_out.old) }
+    /// ensures tag { IfOk result
+    ///     (λ t. t ≡ gcm_tag (aes_cipher (bytes_of self.now)) nonce
+    ///     (aad_bytes aad.entry) in_out.new) }
     /// ensures refused { OnErr result (in_out.new ≡ in_out.old) }
-    /// ensures worked { SealWork (length (aad_bytes aad.entry)) (length in_out.old) result work.old work.new }
+    /// ensures worked { SealWork (length (aad_bytes aad.entry)) (length in_out.old) result
+    ///     work.old work.new }
     /// ```
     ///
-    /// Definitions: [`CanSeal`](crate::specs::gcm#CanSeal), [`aad_bytes`](aead_ciphers_base::specs::values#aad_bytes), [`Fits`](crate::specs::gcm#Fits), [`gcm_encrypted`](crate::specs::gcm#gcm_encrypted), [`aes_cipher`](aead_ciphers_base::specs::aes#aes), [`gcm_tag`](crate::specs::gcm#gcm_tag), [`SealWork`](crate::specs::gcm#SealWork).
+    /// Definitions: [`CanSeal`](crate::specs::gcm#CanSeal), [`aad_bytes`](aead_ciphers_base::specs::values#aad_bytes),
+    /// [`Fits`](crate::specs::gcm#Fits), [`gcm_encrypted`](crate::specs::gcm#gcm_encrypted),
+    /// [`aes_cipher`](aead_ciphers_base::specs::aes#aes), [`gcm_tag`](crate::specs::gcm#gcm_tag),
+    /// [`SealWork`](crate::specs::gcm#SealWork).
     ///
     /// </details>
     fn seal(
@@ -108,13 +116,17 @@ pub trait GcmKey: Clone {
     /// ```text
     /// requires key { is_expanded self.now }
     /// requires sums { CanOpen work.old (length (aad_bytes aad)) src.start (length in_out.old) }
-    /// ensures opened { Opened (aes_cipher (bytes_of self.now)) nonce (aad_bytes aad.entry) received_tag src.start in_out.old (is_ok result) in_out.new }
+    /// ensures opened { Opened (aes_cipher (bytes_of self.now)) nonce (aad_bytes aad.entry)
+    ///     received_tag src.start in_out.old (is_ok result) in_out.new }
     /// ensures count { IfOk result (λ n. n ≡ length in_out.old - src.start) }
     /// ensures refused { OnErr result (in_out.new ≡ in_out.old) }
-    /// ensures worked { OpenWork (length (aad_bytes aad.entry)) src.start (length in_out.old) result work.old work.new }
+    /// ensures worked { OpenWork (length (aad_bytes aad.entry)) src.start (length in_out.old)
+    ///     result work.old work.new }
     /// ```
     ///
-    /// Definitions: [`CanOpen`](crate::specs::gcm#CanOpen), [`aad_bytes`](aead_ciphers_base::specs::values#aad_bytes), [`Opened`](crate::specs::gcm#Opened), [`aes_cipher`](aead_ciphers_base::specs::aes#aes), [`OpenWork`](crate::specs::gcm#OpenWork).
+    /// Definitions: [`CanOpen`](crate::specs::gcm#CanOpen), [`aad_bytes`](aead_ciphers_base::specs::values#aad_bytes),
+    /// [`Opened`](crate::specs::gcm#Opened), [`aes_cipher`](aead_ciphers_base::specs::aes#aes),
+    /// [`OpenWork`](crate::specs::gcm#OpenWork).
     ///
     /// </details>
     fn open(
@@ -145,13 +157,21 @@ pub trait GcmKey: Clone {
     /// requires key { is_expanded self.now }
     /// requires sums { CanSeal work.old (length (aad_bytes aad)) (length ciphertext.now) }
     /// requires lengths { length out.old ≡ length ciphertext.now }
-    /// ensures accepted { IsOk result ↔ (Fits (length (aad_bytes aad.entry)) (length ciphertext.now) × (received_tag ≡ gcm_tag (aes_cipher (bytes_of self.now)) nonce (aad_bytes aad.entry) ciphertext.now)) }
-    /// ensures plaintext { OnOk result (out.new ≡ gcm_decrypted (aes_cipher (bytes_of self.now)) nonce ciphertext.now) }
+    /// ensures accepted { IsOk result
+    ///     ↔ (Fits (length (aad_bytes aad.entry)) (length ciphertext.now)
+    ///     × (received_tag ≡ gcm_tag (aes_cipher (bytes_of self.now)) nonce
+    ///     (aad_bytes aad.entry) ciphertext.now)) }
+    /// ensures plaintext { OnOk result
+    ///     (out.new ≡ gcm_decrypted (aes_cipher (bytes_of self.now)) nonce ciphertext.now) }
     /// ensures refused { OnErr result (out.new ≡ out.old) }
-    /// ensures worked { OpenWork (length (aad_bytes aad.entry)) 0 (length ciphertext.now) result work.old work.new }
+    /// ensures worked { OpenWork (length (aad_bytes aad.entry)) 0 (length ciphertext.now) result
+    ///     work.old work.new }
     /// ```
     ///
-    /// Definitions: [`CanSeal`](crate::specs::gcm#CanSeal), [`aad_bytes`](aead_ciphers_base::specs::values#aad_bytes), [`Fits`](crate::specs::gcm#Fits), [`gcm_tag`](crate::specs::gcm#gcm_tag), [`aes_cipher`](aead_ciphers_base::specs::aes#aes), [`gcm_decrypted`](crate::specs::gcm#gcm_decrypted), [`OpenWork`](crate::specs::gcm#OpenWork).
+    /// Definitions: [`CanSeal`](crate::specs::gcm#CanSeal), [`aad_bytes`](aead_ciphers_base::specs::values#aad_bytes),
+    /// [`Fits`](crate::specs::gcm#Fits), [`gcm_tag`](crate::specs::gcm#gcm_tag),
+    /// [`aes_cipher`](aead_ciphers_base::specs::aes#aes), [`gcm_decrypted`](crate::specs::gcm#gcm_decrypted),
+    /// [`OpenWork`](crate::specs::gcm#OpenWork).
     ///
     /// </details>
     fn open_to(

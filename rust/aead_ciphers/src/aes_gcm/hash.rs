@@ -7,6 +7,11 @@ use aead_ciphers_base::bb;
 use aead_ciphers_base::values::Tag;
 
 /// Ends the hash with the block of the lengths, and returns the tag: the hash XORed with `mask`, the encrypted first counter block.
+// requires { CanAdd work.old 0 1 }
+// ensures tag { (done : List (List ℕ)) → IsHashOf auth.entry.hash_subkey done auth.entry.xi →
+//     let last = length_block auth.entry.aad_len auth.entry.in_out_len in
+//     result ≡ ghash auth.entry.hash_subkey (done ++ last ∷ []) ⊕ mask }
+// ensures worked { Adds work.old work.new 0 1 }
 #[inline(always)]
 pub(super) fn finish<G: UpdateBlock>(auth: Context<'_, G>, mask: Block, work: &mut Work) -> Tag {
     auth.pre_finish(work, |pre_tag: Block| -> Tag {

@@ -33,7 +33,8 @@ impl<K: GcmKey> Key<K> {
     /// ensures worked { Adds work.old work.new 1 0 }
     /// ```
     ///
-    /// Definitions: [`CanAdd`](aead_ciphers_base::specs::work#CanAdd), [`key_bytes`](aead_ciphers_base::specs::key_bytes#key_bytes), [`Adds`](aead_ciphers_base::specs::work#Adds).
+    /// Definitions: [`CanAdd`](aead_ciphers_base::specs::work#CanAdd),
+    /// [`key_bytes`](aead_ciphers_base::specs::key_bytes#key_bytes), [`Adds`](aead_ciphers_base::specs::work#Adds).
     ///
     /// </details>
     #[inline(always)]

@@ -22,12 +22,16 @@ use core::ops::RangeFrom;
 /// ```text
 /// requires sums { CanOpen work.old (length (aad_bytes aad)) src.start (length in_out.old) }
 /// requires subkey { G.hash_subkey gcm.now ≡ A.cipher aes.now zero_block }
-/// ensures opened { Opened (A.cipher aes.now) nonce (aad_bytes aad.entry) received_tag src.start in_out.old (is_ok result) in_out.new }
+/// ensures opened { Opened (A.cipher aes.now) nonce (aad_bytes aad.entry) received_tag src.start
+///     in_out.old (is_ok result) in_out.new }
 /// ensures count { IfOk result (λ n. n ≡ length in_out.old - src.start) }
-/// ensures worked { OpenWork (length (aad_bytes aad.entry)) src.start (length in_out.old) result work.old work.new }
+/// ensures worked { OpenWork (length (aad_bytes aad.entry)) src.start (length in_out.old) result
+///     work.old work.new }
 /// ```
 ///
-/// Definitions: [`CanOpen`](crate::specs::gcm#CanOpen), [`aad_bytes`](aead_ciphers_base::specs::values#aad_bytes), [`zero_block`](aead_ciphers_base::specs::bytes#zero_block), [`Opened`](crate::specs::gcm#Opened), [`OpenWork`](crate::specs::gcm#OpenWork).
+/// Definitions: [`CanOpen`](crate::specs::gcm#CanOpen), [`aad_bytes`](aead_ciphers_base::specs::values#aad_bytes),
+/// [`zero_block`](aead_ciphers_base::specs::bytes#zero_block), [`Opened`](crate::specs::gcm#Opened),
+/// [`OpenWork`](crate::specs::gcm#OpenWork).
 ///
 /// </details>
 #[inline(always)]
@@ -61,12 +65,15 @@ pub fn open_with<A: EncryptCtr32, G: UpdateBlocks>(
 /// requires fits { Fits (length (aad_bytes aad)) (length in_out.old - start) }
 /// requires sums { CanOpen work.old (length (aad_bytes aad)) start (length in_out.old) }
 /// requires subkey { G.hash_subkey gcm.now ≡ A.cipher aes.now zero_block }
-/// ensures opened { Opened (A.cipher aes.now) nonce (aad_bytes aad.entry) received_tag start in_out.old (is_ok result) in_out.new }
+/// ensures opened { Opened (A.cipher aes.now) nonce (aad_bytes aad.entry) received_tag start
+///     in_out.old (is_ok result) in_out.new }
 /// ensures count { IfOk result (λ n. n ≡ length in_out.old - start) }
 /// ensures worked { OpenWork (length (aad_bytes aad.entry)) start (length in_out.old) result work.old work.new }
 /// ```
 ///
-/// Definitions: [`Fits`](crate::specs::gcm#Fits), [`aad_bytes`](aead_ciphers_base::specs::values#aad_bytes), [`CanOpen`](crate::specs::gcm#CanOpen), [`zero_block`](aead_ciphers_base::specs::bytes#zero_block), [`Opened`](crate::specs::gcm#Opened), [`OpenWork`](crate::specs::gcm#OpenWork).
+/// Definitions: [`Fits`](crate::specs::gcm#Fits), [`aad_bytes`](aead_ciphers_base::specs::values#aad_bytes),
+/// [`CanOpen`](crate::specs::gcm#CanOpen), [`zero_block`](aead_ciphers_base::specs::bytes#zero_block),
+/// [`Opened`](crate::specs::gcm#Opened), [`OpenWork`](crate::specs::gcm#OpenWork).
 ///
 /// </details>
 #[inline(always)]
@@ -93,13 +100,18 @@ pub fn open_fitting_with<A: EncryptCtr32, G: UpdateBlocks>(
 /// requires sums { CanSeal work.old (length (aad_bytes aad)) (length ciphertext.now) }
 /// requires subkey { G.hash_subkey gcm.now ≡ A.cipher aes.now zero_block }
 /// requires lengths { length out.old ≡ length ciphertext.now }
-/// ensures accepted { IsOk result ↔ (Fits (length (aad_bytes aad.entry)) (length ciphertext.now) × (received_tag ≡ gcm_tag (A.cipher aes.now) nonce (aad_bytes aad.entry) ciphertext.now)) }
-/// ensures plaintext { OnOk result (out.new ≡ gcm_decrypted (A.cipher aes.now) nonce ciphertext.now) }
+/// ensures accepted { IsOk result ↔ (Fits (length (aad_bytes aad.entry)) (length ciphertext.now)
+///     × (received_tag ≡ gcm_tag (A.cipher aes.now) nonce (aad_bytes aad.entry) ciphertext.now)) }
+/// ensures plaintext { OnOk result
+///     (out.new ≡ gcm_decrypted (A.cipher aes.now) nonce ciphertext.now) }
 /// ensures refused { OnErr result (out.new ≡ out.old) }
 /// ensures worked { OpenWork (length (aad_bytes aad.entry)) 0 (length ciphertext.now) result work.old work.new }
 /// ```
 ///
-/// Definitions: [`CanSeal`](crate::specs::gcm#CanSeal), [`aad_bytes`](aead_ciphers_base::specs::values#aad_bytes), [`zero_block`](aead_ciphers_base::specs::bytes#zero_block), [`Fits`](crate::specs::gcm#Fits), [`gcm_tag`](crate::specs::gcm#gcm_tag), [`gcm_decrypted`](crate::specs::gcm#gcm_decrypted), [`OpenWork`](crate::specs::gcm#OpenWork).
+/// Definitions: [`CanSeal`](crate::specs::gcm#CanSeal), [`aad_bytes`](aead_ciphers_base::specs::values#aad_bytes),
+/// [`zero_block`](aead_ciphers_base::specs::bytes#zero_block), [`Fits`](crate::specs::gcm#Fits),
+/// [`gcm_tag`](crate::specs::gcm#gcm_tag), [`gcm_decrypted`](crate::specs::gcm#gcm_decrypted),
+/// [`OpenWork`](crate::specs::gcm#OpenWork).
 ///
 /// </details>
 #[inline(always)]
@@ -124,6 +136,14 @@ pub fn open_to_with<A: EncryptCtr32, G: UpdateBlocks>(
 
 /// Compares the tag of `ciphertext` with `received_tag`, and returns the counter block of its first block. Fails if the tags
 /// differ.
+// requires fits { Fits (length (aad_bytes aad)) (length ciphertext.now) }
+// requires sums { CanSeal work.old (length (aad_bytes aad)) (length ciphertext.now) }
+// requires subkey { G.hash_subkey gcm.now ≡ A.cipher aes.now zero_block }
+// ensures accepted { IsOk result
+//     ↔ (received_tag ≡ gcm_tag (A.cipher aes.now) nonce (aad_bytes aad.entry) ciphertext.now) }
+// ensures counter { IfOk result (λ counter. IsCounter counter nonce 2) }
+// ensures worked { Adds work.old work.new 1
+//     (sealing_products (length (aad_bytes aad.entry)) (length ciphertext.now)) }
 #[inline(always)]
 fn authenticate<A: EncryptCtr32, G: UpdateBlocks>(
     aes: &A,

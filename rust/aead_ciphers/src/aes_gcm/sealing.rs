@@ -28,7 +28,10 @@ const SHORT_LEN: usize = BATCH_LEN - BLOCK_LEN;
 /// ensures worked { SealWork (length (aad_bytes aad.entry)) (length in_out.old) result work.old work.new }
 /// ```
 ///
-/// Definitions: [`CanSeal`](crate::specs::gcm#CanSeal), [`aad_bytes`](aead_ciphers_base::specs::values#aad_bytes), [`zero_block`](aead_ciphers_base::specs::bytes#zero_block), [`Fits`](crate::specs::gcm#Fits), [`gcm_encrypted`](crate::specs::gcm#gcm_encrypted), [`gcm_tag`](crate::specs::gcm#gcm_tag), [`SealWork`](crate::specs::gcm#SealWork).
+/// Definitions: [`CanSeal`](crate::specs::gcm#CanSeal), [`aad_bytes`](aead_ciphers_base::specs::values#aad_bytes),
+/// [`zero_block`](aead_ciphers_base::specs::bytes#zero_block), [`Fits`](crate::specs::gcm#Fits),
+/// [`gcm_encrypted`](crate::specs::gcm#gcm_encrypted), [`gcm_tag`](crate::specs::gcm#gcm_tag),
+/// [`SealWork`](crate::specs::gcm#SealWork).
 ///
 /// </details>
 #[inline(always)]
@@ -73,6 +76,11 @@ pub fn seal_with<A: EncryptCtr32, G: UpdateBlocks>(
 /// counter block. The counter blocks of the plaintext follow that one, so counter mode of a zero block followed by the
 /// plaintext, at most sixteen blocks in all, computes both at once. That saves a pass over four blocks. The caller handles an
 /// empty plaintext itself, which is 4 % faster.
+// requires short { length in_out.old ≤ SHORT_LEN }
+// requires sums { CanAdd work.old (sealing_blocks (length in_out.old)) 0 }
+// ensures ciphertext { in_out.new ≡ gcm_encrypted (A.cipher aes.now) nonce in_out.old }
+// ensures mask { result ≡ A.cipher aes.now (counter_block nonce 1) }
+// ensures worked { Adds work.old work.new (sealing_blocks (length in_out.old)) 0 }
 #[inline(always)]
 fn encrypt_short<A: EncryptCtr32>(
     aes: &A,
@@ -92,6 +100,12 @@ fn encrypt_short<A: EncryptCtr32>(
 
 /// Encrypts the plaintext in place and returns the mask of the tag, as `encrypt_short` does. The work is done in `text`, which
 /// starts with a block of zeros and has room for the plaintext when it is padded to whole blocks.
+// requires room { length text.old ≡ sealing_blocks (length in_out.old) * 16 }
+// requires zeros { take 16 text.old ≡ zero_block }
+// requires sums { CanAdd work.old (sealing_blocks (length in_out.old)) 0 }
+// ensures ciphertext { in_out.new ≡ gcm_encrypted (A.cipher aes.now) nonce in_out.old }
+// ensures mask { result ≡ A.cipher aes.now (counter_block nonce 1) }
+// ensures worked { Adds work.old work.new (sealing_blocks (length in_out.old)) 0 }
 #[inline(always)]
 fn encrypt_after_zeros<A: EncryptCtr32>(
     aes: &A,

@@ -22,12 +22,14 @@ impl<'key, K: UpdateBlock> Context<'key, K> {
     ///
     /// ```text
     /// requires { CanAdd work.old 0 1 }
-    /// ensures hashed { (done : List (List ℕ)) → IsHashOf self.old.hash_subkey done self.old.xi → IsHashOf self.old.hash_subkey (done ++ block ∷ []) self.new.xi }
+    /// ensures hashed { (done : List (List ℕ)) → IsHashOf self.old.hash_subkey done self.old.xi
+    ///     → IsHashOf self.old.hash_subkey (done ++ block ∷ []) self.new.xi }
     /// ensures kept { self.new ≡ record self.old { xi = self.new.xi } }
     /// ensures worked { Adds work.old work.new 0 1 }
     /// ```
     ///
-    /// Definitions: [`CanAdd`](aead_ciphers_base::specs::work#CanAdd), [`IsHashOf`](crate::specs::hash_of#IsHashOf), [`Adds`](aead_ciphers_base::specs::work#Adds).
+    /// Definitions: [`CanAdd`](aead_ciphers_base::specs::work#CanAdd), [`IsHashOf`](crate::specs::hash_of#IsHashOf),
+    /// [`Adds`](aead_ciphers_base::specs::work#Adds).
     ///
     /// </details>
     #[inline(always)]
@@ -42,12 +44,19 @@ impl<'key, K: UpdateBlock> Context<'key, K> {
     ///
     /// ```text
     /// requires sums { CanAdd work.old 0 1 }
-    /// requires callable { (xi : List ℕ) → ((done : List (List ℕ)) → IsHashOf self.hash_subkey done self.xi → IsHashOf self.hash_subkey (done ++ length_block self.aad_len self.in_out_len ∷ []) xi) → F.pre f xi }
-    /// ensures hashed { (xi : List ℕ) × F.post f xi result × ((done : List (List ℕ)) → IsHashOf self.entry.hash_subkey done self.entry.xi → IsHashOf self.entry.hash_subkey (done ++ length_block self.entry.aad_len self.entry.in_out_len ∷ []) xi) }
+    /// requires callable { (xi : List ℕ)
+    ///     → ((done : List (List ℕ)) → IsHashOf self.hash_subkey done self.xi
+    ///     → IsHashOf self.hash_subkey (done ++ length_block self.aad_len self.in_out_len ∷ []) xi)
+    ///     → F.pre f xi }
+    /// ensures hashed { (xi : List ℕ) × F.post f xi result
+    ///     × ((done : List (List ℕ)) → IsHashOf self.entry.hash_subkey done self.entry.xi
+    ///     → IsHashOf self.entry.hash_subkey
+    ///     (done ++ length_block self.entry.aad_len self.entry.in_out_len ∷ []) xi) }
     /// ensures worked { Adds work.old work.new 0 1 }
     /// ```
     ///
-    /// Definitions: [`CanAdd`](aead_ciphers_base::specs::work#CanAdd), [`IsHashOf`](crate::specs::hash_of#IsHashOf), [`length_block`](crate::specs::gcm#length_block), [`Adds`](aead_ciphers_base::specs::work#Adds).
+    /// Definitions: [`CanAdd`](aead_ciphers_base::specs::work#CanAdd), [`IsHashOf`](crate::specs::hash_of#IsHashOf),
+    /// [`length_block`](crate::specs::gcm#length_block), [`Adds`](aead_ciphers_base::specs::work#Adds).
     ///
     /// </details>
     #[inline(always)]
@@ -76,17 +85,22 @@ impl<'key, K: UpdateBlocks> Context<'key, K> {
     /// <details><summary>Contract</summary>
     ///
     /// ```text
-    /// requires { Fits (length (aad_bytes aad)) in_out_len → CanAdd work.old 0 ((length (aad_bytes aad) + 15) / 16) }
+    /// requires { Fits (length (aad_bytes aad)) in_out_len
+    ///     → CanAdd work.old 0 ((length (aad_bytes aad) + 15) / 16) }
     /// ensures accepted { IsOk result ↔ Fits (length (aad_bytes aad.entry)) in_out_len }
     /// ensures hash_subkey { IfOk result (λ context. context.hash_subkey ≡ K.hash_subkey key.now) }
     /// ensures aad_len { IfOk result (λ context. context.aad_len ≡ length (aad_bytes aad.entry)) }
     /// ensures in_out_len { IfOk result (λ context. context.in_out_len ≡ in_out_len) }
-    /// ensures hashed { IfOk result (λ context. IsHashOf context.hash_subkey (padded_blocks (aad_bytes aad.entry)) context.xi) }
-    /// ensures worked { OnOk result (Adds work.old work.new 0 ((length (aad_bytes aad.entry) + 15) / 16)) }
+    /// ensures hashed { IfOk result
+    ///     (λ context. IsHashOf context.hash_subkey (padded_blocks (aad_bytes aad.entry)) context.xi) }
+    /// ensures worked { OnOk result
+    ///     (Adds work.old work.new 0 ((length (aad_bytes aad.entry) + 15) / 16)) }
     /// ensures idle { OnErr result (work.new ≡ work.old) }
     /// ```
     ///
-    /// Definitions: [`Fits`](crate::specs::gcm#Fits), [`aad_bytes`](aead_ciphers_base::specs::values#aad_bytes), [`CanAdd`](aead_ciphers_base::specs::work#CanAdd), [`IsHashOf`](crate::specs::hash_of#IsHashOf), [`padded_blocks`](crate::specs::gcm#padded_blocks), [`Adds`](aead_ciphers_base::specs::work#Adds).
+    /// Definitions: [`Fits`](crate::specs::gcm#Fits), [`aad_bytes`](aead_ciphers_base::specs::values#aad_bytes),
+    /// [`CanAdd`](aead_ciphers_base::specs::work#CanAdd), [`IsHashOf`](crate::specs::hash_of#IsHashOf),
+    /// [`padded_blocks`](crate::specs::gcm#padded_blocks), [`Adds`](aead_ciphers_base::specs::work#Adds).
     ///
     /// </details>
     #[inline(always)]
@@ -104,6 +118,13 @@ impl<'key, K: UpdateBlocks> Context<'key, K> {
 
     /// Starts the hash of `aad` and of `in_out_len` bytes of ciphertext, as `new` does. The caller has checked that both lengths
     /// are within the limits.
+    // requires fits { Fits (length (aad_bytes aad)) in_out_len }
+    // requires sums { CanAdd work.old 0 ((length (aad_bytes aad) + 15) / 16) }
+    // ensures hash_subkey { result.hash_subkey ≡ K.hash_subkey key.now }
+    // ensures aad_len { result.aad_len ≡ length (aad_bytes aad.entry) }
+    // ensures in_out_len { result.in_out_len ≡ in_out_len }
+    // ensures hashed { IsHashOf result.hash_subkey (padded_blocks (aad_bytes aad.entry)) result.xi }
+    // ensures worked { Adds work.old work.new 0 ((length (aad_bytes aad.entry) + 15) / 16) }
     #[inline(always)]
     pub(crate) fn of_fitting(
         key: &'key K,
@@ -128,12 +149,14 @@ impl<'key, K: UpdateBlocks> Context<'key, K> {
     ///
     /// ```text
     /// requires { CanAdd work.old 0 (length input.items.now / 16) }
-    /// ensures hashed { (done : List (List ℕ)) → IsHashOf self.old.hash_subkey done self.old.xi → IsHashOf self.old.hash_subkey (done ++ blocks 16 input.entry.items.now) self.new.xi }
+    /// ensures hashed { (done : List (List ℕ)) → IsHashOf self.old.hash_subkey done self.old.xi
+    ///     → IsHashOf self.old.hash_subkey (done ++ blocks 16 input.entry.items.now) self.new.xi }
     /// ensures kept { self.new ≡ record self.old { xi = self.new.xi } }
     /// ensures worked { Adds work.old work.new 0 (length input.entry.items.now / 16) }
     /// ```
     ///
-    /// Definitions: [`CanAdd`](aead_ciphers_base::specs::work#CanAdd), [`IsHashOf`](crate::specs::hash_of#IsHashOf), [`blocks`](aead_ciphers_base::specs::blocks#blocks), [`Adds`](aead_ciphers_base::specs::work#Adds).
+    /// Definitions: [`CanAdd`](aead_ciphers_base::specs::work#CanAdd), [`IsHashOf`](crate::specs::hash_of#IsHashOf),
+    /// [`blocks`](aead_ciphers_base::specs::blocks#blocks), [`Adds`](aead_ciphers_base::specs::work#Adds).
     ///
     /// </details>
     #[inline(always)]
@@ -142,6 +165,9 @@ impl<'key, K: UpdateBlocks> Context<'key, K> {
     }
 
     /// Updates the hash with `input` in blocks, the last of which is padded with zeros, by one field product per block.
+    // requires { CanAdd work.old 0 ((length input.now + 15) / 16) }
+    // ensures hashed { Absorbs self.old input.now self.new }
+    // ensures worked { Adds work.old work.new 0 ((length input.now + 15) / 16) }
     #[inline(always)]
     pub(crate) fn absorb(&mut self, input: &[u8], work: &mut Work) {
         absorb(self.key, &mut self.xi, input, work);

@@ -11,11 +11,13 @@ use aead_ciphers_base::polyfill::slice::as_chunks;
 ///
 /// ```text
 /// requires { CanAdd work.old 0 ((length input.now + 15) / 16) }
-/// ensures hashed { (done : List (List ℕ)) → IsHashOf (G.hash_subkey gcm.now) done xi.old → IsHashOf (G.hash_subkey gcm.now) (done ++ padded_blocks input.now) xi.new }
+/// ensures hashed { (done : List (List ℕ)) → IsHashOf (G.hash_subkey gcm.now) done xi.old
+///     → IsHashOf (G.hash_subkey gcm.now) (done ++ padded_blocks input.now) xi.new }
 /// ensures worked { Adds work.old work.new 0 ((length input.now + 15) / 16) }
 /// ```
 ///
-/// Definitions: [`CanAdd`](aead_ciphers_base::specs::work#CanAdd), [`IsHashOf`](crate::specs::hash_of#IsHashOf), [`padded_blocks`](crate::specs::gcm#padded_blocks), [`Adds`](aead_ciphers_base::specs::work#Adds).
+/// Definitions: [`CanAdd`](aead_ciphers_base::specs::work#CanAdd), [`IsHashOf`](crate::specs::hash_of#IsHashOf),
+/// [`padded_blocks`](crate::specs::gcm#padded_blocks), [`Adds`](aead_ciphers_base::specs::work#Adds).
 ///
 /// </details>
 #[inline(always)]
@@ -28,6 +30,8 @@ pub fn absorb<G: UpdateBlocks>(gcm: &G, xi: &mut Xi, input: &[u8], work: &mut Wo
 }
 
 /// Returns a block that begins with `bytes`, at most 16 of them, and ends in zeros.
+// requires { length bytes.now ≤ 16 }
+// ensures { result ≡ padded_block bytes.now 0 }
 #[inline(always)]
 fn padded(bytes: &[u8]) -> Block {
     let mut block = ZERO_BLOCK;

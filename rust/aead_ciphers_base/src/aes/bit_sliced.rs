@@ -45,10 +45,14 @@ impl RoundKeyPlanes<u64> for [u64; 8] {
 /// ```text
 /// requires some { 1 ≤ last }
 /// requires enough { last ≤ length round_keys.now }
-/// ensures { (k : ℕ) → k < P.width / 16 → (w : List (List ℕ)) → ((j : ℕ) → j < last → HoldsRound P.place k w j (slice_index_or (map K.held round_keys.now) j [])) → block_at P.place (map P.number result) k ≡ rounds w (block_at P.place (map P.number planes) k) (last - 1) }
+/// ensures { (k : ℕ) → k < P.width / 16 → (w : List (List ℕ))
+///     → ((j : ℕ) → j < last → HoldsRound P.place k w j (slice_index_or (map K.held round_keys.now) j []))
+///     → block_at P.place (map P.number result) k
+///     ≡ rounds w (block_at P.place (map P.number planes) k) (last - 1) }
 /// ```
 ///
-/// Definitions: [`HoldsRound`](crate::specs::planes#HoldsRound), [`block_at`](crate::specs::planes#block_at), [`rounds`](crate::specs::aes#rounds).
+/// Definitions: [`HoldsRound`](crate::specs::planes#HoldsRound), [`block_at`](crate::specs::planes#block_at),
+/// [`rounds`](crate::specs::aes#rounds).
 ///
 /// </details>
 #[inline(always)]
@@ -72,10 +76,14 @@ pub fn first_rounds<P: Plane, K: RoundKeyPlanes<P>>(
 /// <details><summary>Contract</summary>
 ///
 /// ```text
-/// ensures { (k : ℕ) → k < P.width / 16 → (w : List (List ℕ)) (j : ℕ) → HoldsRound P.place k w j (K.held round_key.now) → block_at P.place (map P.number result) k ≡ add_round_key w j (shift_rows (sub_bytes (block_at P.place (map P.number planes) k))) }
+/// ensures { (k : ℕ) → k < P.width / 16 → (w : List (List ℕ)) (j : ℕ) → HoldsRound P.place k w j (K.held round_key.now)
+///     → block_at P.place (map P.number result) k
+///     ≡ add_round_key w j (shift_rows (sub_bytes (block_at P.place (map P.number planes) k))) }
 /// ```
 ///
-/// Definitions: [`HoldsRound`](crate::specs::planes#HoldsRound), [`block_at`](crate::specs::planes#block_at), [`add_round_key`](crate::specs::aes#add_round_key), [`shift_rows`](crate::specs::aes#shift_rows), [`sub_bytes`](crate::specs::aes#sub_bytes).
+/// Definitions: [`HoldsRound`](crate::specs::planes#HoldsRound), [`block_at`](crate::specs::planes#block_at),
+/// [`add_round_key`](crate::specs::aes#add_round_key), [`shift_rows`](crate::specs::aes#shift_rows),
+/// [`sub_bytes`](crate::specs::aes#sub_bytes).
 ///
 /// </details>
 #[inline(always)]
@@ -90,7 +98,8 @@ impl<'k> KeyRef<'k> {
     /// <details><summary>Contract</summary>
     ///
     /// ```text
-    /// ensures { (k : ℕ) → k < 4 → slice_index_or result k [] ≡ aes self.now (slice_index_or blocks k []) }
+    /// ensures { (k : ℕ) → k < 4
+    ///     → slice_index_or result k [] ≡ aes self.now (slice_index_or blocks k []) }
     /// ```
     ///
     /// Definitions: [`aes`](crate::specs::aes#aes).

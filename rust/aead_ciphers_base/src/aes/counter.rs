@@ -35,7 +35,8 @@ impl Counter {
     ///
     /// ```text
     /// ensures iv { result ≡ self.old }
-    /// ensures counter { (nonce : List ℕ) (k : ℕ) → IsCounter self.old nonce k → IsCounter self.new nonce (k + 1) }
+    /// ensures counter { (nonce : List ℕ) (k : ℕ) → IsCounter self.old nonce k →
+    ///     IsCounter self.new nonce (k + 1) }
     /// ```
     ///
     /// Definitions: [`IsCounter`](crate::specs::counter_mode#IsCounter).
@@ -54,7 +55,8 @@ impl Counter {
     /// <details><summary>Contract</summary>
     ///
     /// ```text
-    /// ensures { (nonce : List ℕ) (k : ℕ) → IsCounter self.old nonce k → IsCounter self.new nonce (k + increment_by) }
+    /// ensures { (nonce : List ℕ) (k : ℕ) → IsCounter self.old nonce k →
+    ///     IsCounter self.new nonce (k + increment_by) }
     /// ```
     ///
     /// Definitions: [`IsCounter`](crate::specs::counter_mode#IsCounter).
@@ -70,7 +72,8 @@ impl Counter {
     /// <details><summary>Contract</summary>
     ///
     /// ```text
-    /// ensures { (nonce : List ℕ) (k : ℕ) → IsCounter self.now nonce k → IsCounter result nonce (k + more) }
+    /// ensures { (nonce : List ℕ) (k : ℕ) → IsCounter self.now nonce k →
+    ///     IsCounter result nonce (k + more) }
     /// ```
     ///
     /// Definitions: [`IsCounter`](crate::specs::counter_mode#IsCounter).
@@ -87,6 +90,8 @@ impl Counter {
     }
 
     /// Returns the counter block and the next three.
+    // ensures { (nonce : List ℕ) (k : ℕ) → IsCounter self.now nonce k → (i : ℕ) → i < 4 →
+    //     IsCounter (slice_index_or result i []) nonce (k + i) }
     #[inline(always)]
     pub(crate) fn next_four(&self) -> [Block; 4] {
         [self.plus(0), self.plus(1), self.plus(2), self.plus(3)]

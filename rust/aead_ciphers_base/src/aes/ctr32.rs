@@ -28,6 +28,13 @@ impl<'k> EncryptCtr32 for KeyRef<'k> {
 }
 
 /// Encrypts the one to four blocks from `start` on, and writes them to the front.
+// requires within { start ≤ length in_out.old }
+// requires whole { (length in_out.old - start) % 16 ≡ 0 }
+// requires short { length in_out.old - start ≤ BATCH_LEN }
+// requires sums { CanAdd work.old ((length in_out.old - start) / 16) 0 }
+// ensures output { EncryptsToFront (aes key.now) counter.old start in_out.old in_out.new }
+// ensures counter { Advances counter.old counter.new ((length in_out.old - start) / 16) }
+// ensures worked { Adds work.old work.new ((length in_out.old - start) / 16) 0 }
 #[inline(always)]
 fn encrypt_batch(
     key: &KeyRef<'_>,

@@ -8,17 +8,20 @@ use super::planes::{Planes, sub_planes};
 /// The first byte of each round constant Rcon.
 const ROUND_CONSTANTS: [u8; 10] = [0x01, 0x02, 0x04, 0x08, 0x10, 0x20, 0x40, 0x80, 0x1b, 0x36];
 
+// ensures { result ≡ a ⊕ b }
 #[inline(always)]
 fn add_words(a: [u8; 4], b: [u8; 4]) -> [u8; 4] {
     [a[0] ^ b[0], a[1] ^ b[1], a[2] ^ b[2], a[3] ^ b[3]]
 }
 
+// ensures { result ≡ rot_word a }
 #[inline(always)]
 fn rot_word(a: [u8; 4]) -> [u8; 4] {
     [a[1], a[2], a[3], a[0]]
 }
 
 /// Applies the S-box to each byte of a word, on planes that hold these bytes in every eighth of their 64 places.
+// ensures { result ≡ sub_word a }
 #[inline(always)]
 fn sub_word(a: [u8; 4]) -> [u8; 4] {
     let mut planes = spread(u64::from(u32::from_le_bytes(a)));
@@ -27,11 +30,18 @@ fn sub_word(a: [u8; 4]) -> [u8; 4] {
     [b0, b1, b2, b3]
 }
 
+// requires { n < 10 }
+// ensures { result ≡ power_of_x n }
 #[inline(always)]
 fn round_constant(n: usize) -> u8 {
     ROUND_CONSTANTS[n]
 }
 
+// requires positive { 0 < nk }
+// requires from { nk ≤ i }
+// requires below { i < 11 * nk }
+// requires within { i ≤ length words.now }
+// ensures { result ≡ next_word nk words.now i }
 #[inline(always)]
 fn next_word(words: &[[u8; 4]], i: usize, nk: usize) -> [u8; 4] {
     let last = words[i - 1];
@@ -54,7 +64,8 @@ fn next_word(words: &[[u8; 4]], i: usize, nk: usize) -> [u8; 4] {
 ///
 /// ```text
 /// requires { (length key.now ≡ 16) ⊎ (length key.now ≡ 32) }
-/// ensures { let nk = length key.now / 4 in take (4 * (nk + 7)) result ≡ key_words nk key.now (4 * (nk + 7) - nk) }
+/// ensures { let nk = length key.now / 4 in
+///     take (4 * (nk + 7)) result ≡ key_words nk key.now (4 * (nk + 7) - nk) }
 /// ```
 ///
 /// Definitions: [`key_words`](crate::specs::aes#key_words).
@@ -74,6 +85,9 @@ pub fn expand(key: &[u8]) -> [[u8; 4]; 60] {
 }
 
 /// Packs a round key into each of the four blocks.
+// requires { 4 * round + 4 ≤ length words.now }
+// ensures { (p : ℕ) → p < 64
+//     → plane_byte result p ≡ slice_index (word_at words.now (4 * round + p % 16 / 4)) (p % 4) }
 #[inline(always)]
 fn pack_round_key(words: &[[u8; 4]], round: usize) -> Planes {
     let mut block = ZERO_BLOCK;

@@ -19,6 +19,11 @@ pub const LOW: [u64; 6] = [
 
 /// A delta swap: exchanges the bits of `a` at places whose digit `k` is one with the bits of `b` at places
 /// whose digit `k` is zero.
+// requires { k < 6 }
+// ensures first { (q : ℕ) → q < 64
+//     → bit_at result.0 q ≡ (if bit_at q k == 0 then bit_at a q else bit_at b (q - 2 ^ k)) }
+// ensures second { (q : ℕ) → q < 64
+//     → bit_at result.1 q ≡ (if bit_at q k == 0 then bit_at a (q + 2 ^ k) else bit_at b q) }
 #[inline(always)]
 fn delta_swap(a: u64, b: u64, k: usize) -> (u64, u64) {
     let shift = 1u32 << k;
@@ -28,6 +33,8 @@ fn delta_swap(a: u64, b: u64, k: usize) -> (u64, u64) {
 
 /// Exchanges digit `k` of each bit's place in its word with the highest digit of the word's index, and
 /// then rotates the digits of the index: the highest becomes the lowest.
+// requires { k < 6 }
+// ensures { (n : ℕ) → n < 512 → word_bit result n ≡ word_bit words (exchanged_from k n) }
 #[inline(always)]
 fn exchange_digits(words: [u64; 8], k: usize) -> [u64; 8] {
     let [w0, w1, w2, w3, w4, w5, w6, w7] = words;
@@ -39,17 +46,22 @@ fn exchange_digits(words: [u64; 8], k: usize) -> [u64; 8] {
 }
 
 /// Byte `j` of word `i` becomes byte `i` of word `j`.
+// ensures { (n : ℕ) → n < 512
+//     → word_bit result n ≡ word_bit words (n / 8 % 8 * 64 + n / 64 * 8 + n % 8) }
 #[inline(always)]
 fn transpose_bytes(words: [u64; 8]) -> [u64; 8] {
     exchange_digits(exchange_digits(exchange_digits(words, 5), 4), 3)
 }
 
 /// Bit `b` of each byte of word `i` becomes bit `i` of that byte of word `b`.
+// ensures { (n : ℕ) → n < 512
+//     → word_bit result n ≡ word_bit words (n % 8 * 64 + n / 8 % 8 * 8 + n / 64) }
 #[inline(always)]
 fn transpose_bits(words: [u64; 8]) -> [u64; 8] {
     exchange_digits(exchange_digits(exchange_digits(words, 2), 1), 0)
 }
 
+// ensures { to_le_bytes w64 result.0 ++ to_le_bytes w64 result.1 ≡ block }
 #[inline(always)]
 fn words_of(block: Block) -> (u64, u64) {
     let mut low = [0; 8];
@@ -59,6 +71,7 @@ fn words_of(block: Block) -> (u64, u64) {
     (u64::from_le_bytes(low), u64::from_le_bytes(high))
 }
 
+// ensures { result ≡ to_le_bytes w64 low ++ to_le_bytes w64 high }
 #[inline(always)]
 fn block_of(low: u64, high: u64) -> Block {
     let mut block = ZERO_BLOCK;
@@ -72,7 +85,8 @@ fn block_of(low: u64, high: u64) -> Block {
 /// <details><summary>Contract</summary>
 ///
 /// ```text
-/// ensures { (p : ℕ) → p < 64 → plane_byte result p ≡ slice_index (slice_index_or blocks (p / 16) []) (p % 16) }
+/// ensures { (p : ℕ) → p < 64
+///     → plane_byte result p ≡ slice_index (slice_index_or blocks (p / 16) []) (p % 16) }
 /// ```
 ///
 /// Definitions: [`plane_byte`](crate::specs::planes#plane_byte).

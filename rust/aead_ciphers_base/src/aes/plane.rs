@@ -19,8 +19,10 @@ use core::ops::{BitAnd, BitXor};
 /// // Any two words can be added and multiplied, bit by bit.
 /// ghost can_xor: { (a b : Self) → Self.can_bitxor a b };
 /// ghost can_and: { (a b : Self) → Self.can_bitand a b };
-/// ghost xor_is: { (a b c : Self) → Self.bitxor_gives a b c → number c ≡ bit_xor (number a) (number b) };
-/// ghost and_is: { (a b c : Self) → Self.bitand_gives a b c → number c ≡ bit_and (number a) (number b) };
+/// ghost xor_is: { (a b c : Self) → Self.bitxor_gives a b c
+///     → number c ≡ bit_xor (number a) (number b) };
+/// ghost and_is: { (a b c : Self) → Self.bitand_gives a b c
+///     → number c ≡ bit_and (number a) (number b) };
 /// ```
 ///
 /// </details>

@@ -4,12 +4,14 @@
 use super::plane::Plane;
 
 /// Multiplies each byte by {02}, the polynomial x (FIPS 197 section 4.2).
+// ensures { (p : ℕ) → plane_byte (map P.number result) p ≡ mul8 2 (plane_byte (map P.number a) p) }
 #[inline(always)]
 fn times_x<P: Plane>(a: [P; 8]) -> [P; 8] {
     let [a0, a1, a2, a3, a4, a5, a6, top] = a;
     [top, a0 ^ top, a1, a2 ^ top, a3 ^ top, a4, a5, a6]
 }
 
+// ensures { MovesBytes P.place (P.width / 16) (below 1) (map P.number a) (map P.number result) }
 #[inline(always)]
 fn planes_one_below<P: Plane>(a: [P; 8]) -> [P; 8] {
     let mut out = [a[0]; 8];
@@ -19,6 +21,7 @@ fn planes_one_below<P: Plane>(a: [P; 8]) -> [P; 8] {
     out
 }
 
+// ensures { MovesBytes P.place (P.width / 16) (below 2) (map P.number a) (map P.number result) }
 #[inline(always)]
 fn planes_two_below<P: Plane>(a: [P; 8]) -> [P; 8] {
     let mut out = [a[0]; 8];
@@ -28,6 +31,8 @@ fn planes_two_below<P: Plane>(a: [P; 8]) -> [P; 8] {
     out
 }
 
+// ensures { (p : ℕ) → plane_byte (map P.number result) p
+//     ≡ bit_xor (plane_byte (map P.number a) p) (plane_byte (map P.number b) p) }
 #[inline(always)]
 fn add_planes<P: Plane>(a: [P; 8], b: [P; 8]) -> [P; 8] {
     let mut out = [a[0]; 8];
@@ -42,7 +47,8 @@ fn add_planes<P: Plane>(a: [P; 8], b: [P; 8]) -> [P; 8] {
 /// <details><summary>Contract</summary>
 ///
 /// ```text
-/// ensures { (k : ℕ) → k < P.width / 16 → block_at P.place (map P.number result) k ≡ shift_rows (block_at P.place (map P.number a) k) }
+/// ensures { (k : ℕ) → k < P.width / 16 → block_at P.place (map P.number result) k
+///     ≡ shift_rows (block_at P.place (map P.number a) k) }
 /// ```
 ///
 /// Definitions: [`block_at`](crate::specs::planes#block_at), [`shift_rows`](crate::specs::aes#shift_rows).
@@ -62,7 +68,8 @@ pub fn shift_rows<P: Plane>(a: [P; 8]) -> [P; 8] {
 /// <details><summary>Contract</summary>
 ///
 /// ```text
-/// ensures { (k : ℕ) → k < P.width / 16 → block_at P.place (map P.number result) k ≡ mix_columns (block_at P.place (map P.number a) k) }
+/// ensures { (k : ℕ) → k < P.width / 16 → block_at P.place (map P.number result) k
+///     ≡ mix_columns (block_at P.place (map P.number a) k) }
 /// ```
 ///
 /// Definitions: [`block_at`](crate::specs::planes#block_at), [`mix_columns`](crate::specs::aes#mix_columns).
@@ -81,10 +88,12 @@ pub fn mix_columns<P: Plane>(a: [P; 8]) -> [P; 8] {
 /// <details><summary>Contract</summary>
 ///
 /// ```text
-/// ensures { (k : ℕ) → k < P.width / 16 → (w : List (List ℕ)) (j : ℕ) → HoldsRound P.place k w j (map P.number round_key) → block_at P.place (map P.number result) k ≡ add_round_key w j (block_at P.place (map P.number a) k) }
+/// ensures { (k : ℕ) → k < P.width / 16 → (w : List (List ℕ)) (j : ℕ) → HoldsRound P.place k w j (map P.number round_key)
+///     → block_at P.place (map P.number result) k ≡ add_round_key w j (block_at P.place (map P.number a) k) }
 /// ```
 ///
-/// Definitions: [`HoldsRound`](crate::specs::planes#HoldsRound), [`block_at`](crate::specs::planes#block_at), [`add_round_key`](crate::specs::aes#add_round_key).
+/// Definitions: [`HoldsRound`](crate::specs::planes#HoldsRound), [`block_at`](crate::specs::planes#block_at),
+/// [`add_round_key`](crate::specs::aes#add_round_key).
 ///
 /// </details>
 #[inline(always)]

@@ -10,6 +10,8 @@
 use super::plane::Plane;
 
 /// Multiplies in the field of 4.
+// ensures { (p : ℕ) → plane_element basis_4 (map W.number result) p
+//     ≡ mul8 (plane_element basis_4 (map W.number a) p) (plane_element basis_4 (map W.number b) p) }
 #[inline(always)]
 fn multiply_4<W: Plane>(a: [W; 2], b: [W; 2]) -> [W; 2] {
     let [a0, a1] = a;
@@ -19,6 +21,8 @@ fn multiply_4<W: Plane>(a: [W; 2], b: [W; 2]) -> [W; 2] {
 }
 
 /// Multiplies in the field of 16, by three products in the field of 4.
+// ensures { (p : ℕ) → plane_element basis_16 (map W.number result) p
+//     ≡ mul8 (plane_element basis_16 (map W.number a) p) (plane_element basis_16 (map W.number b) p) }
 #[inline(always)]
 fn multiply_16<W: Plane>(a: [W; 4], b: [W; 4]) -> [W; 4] {
     let [a0, a1, a2, a3] = a;
@@ -33,6 +37,8 @@ fn multiply_16<W: Plane>(a: [W; 4], b: [W; 4]) -> [W; 4] {
 /// Inverts in the field of 16. Each coordinate of the inverse is a polynomial in those of n. The power 4
 /// exchanges the halves of n and those of its inverse, so the last two polynomials are the first two
 /// with the halves of n exchanged.
+// ensures { (p : ℕ) → plane_element basis_16 (map W.number result) p
+//     ≡ inv (plane_element basis_16 (map W.number n) p) }
 #[inline(always)]
 fn invert_16<W: Plane>(n: [W; 4]) -> [W; 4] {
     let [n0, n1, n2, n3] = n;
@@ -47,6 +53,8 @@ fn invert_16<W: Plane>(n: [W; 4]) -> [W; 4] {
 }
 
 /// Inverts each byte, in coordinates of the tower: a^254 = a^16 * (a^17)^14, and a^17 is in the field of 16.
+// ensures { (p : ℕ) → plane_element basis_256 (map W.number result) p
+//     ≡ inv (plane_element basis_256 (map W.number a) p) }
 #[inline(always)]
 fn invert<W: Plane>(a: [W; 8]) -> [W; 8] {
     let [a0, a1, a2, a3, a4, a5, a6, a7] = a;
@@ -67,6 +75,7 @@ fn invert<W: Plane>(a: [W; 8]) -> [W; 8] {
 }
 
 /// Converts each byte to its coordinates in the basis of the tower.
+// ensures { (p : ℕ) → plane_element basis_256 (map W.number result) p ≡ plane_byte (map W.number a) p }
 #[inline(always)]
 fn to_tower<W: Plane>(a: [W; 8]) -> [W; 8] {
     let [a0, a1, a2, a3, a4, a5, a6, a7] = a;
@@ -88,6 +97,8 @@ fn to_tower<W: Plane>(a: [W; 8]) -> [W; 8] {
 
 /// Applies the affine transformation of the S-box to each byte. The planes hold the coordinates of the
 /// bytes in the basis of the tower; the result holds bytes again.
+// ensures { (p : ℕ) → p < W.width → plane_byte (map W.number result) p
+//     ≡ affine (plane_element basis_256 (map W.number a) p) }
 #[inline(always)]
 fn map_affine<W: Plane>(a: [W; 8]) -> [W; 8] {
     let [a0, a1, a2, a3, a4, a5, a6, a7] = a;
@@ -114,7 +125,8 @@ fn map_affine<W: Plane>(a: [W; 8]) -> [W; 8] {
 /// <details><summary>Contract</summary>
 ///
 /// ```text
-/// ensures { (p : ℕ) → p < W.width → plane_byte (map W.number result) p ≡ sbox (plane_byte (map W.number planes) p) }
+/// ensures { (p : ℕ) → p < W.width → plane_byte (map W.number result) p
+///     ≡ sbox (plane_byte (map W.number planes) p) }
 /// ```
 ///
 /// Definitions: [`plane_byte`](crate::specs::planes#plane_byte), [`sbox`](crate::specs::byte_field#sbox).

@@ -7,17 +7,26 @@ use simd::u32x4;
 /// Four states: word `k` of state `j` is lane `j` of vector `k`.
 type States = [u32x4; 16];
 
+// ensures { (j : ℕ) → j < 4 → slice_index result j ≡ add32 (slice_index a j) (slice_index b j) }
 #[inline(always)]
 pub(super) fn add(a: u32x4, b: u32x4) -> u32x4 {
     a + b
 }
 
+// requires above_zero { 0 < n }
+// requires below_width { n < 32 }
+// ensures { (j : ℕ) → j < 4
+//     → slice_index result j ≡ xor_rotate (slice_index a j) (slice_index b j) n }
 #[inline(always)]
 fn xor_rotate(a: u32x4, b: u32x4, n: u32) -> u32x4 {
     let x = a ^ b;
     (x << u32x4::splat(n)) | (x >> u32x4::splat(32 - n))
 }
 
+// ensures { (j : ℕ) → j < 4 →
+//     let at = λ (v : List ℕ). slice_index v j in
+//     (at result.0, at result.1, at result.2, at result.3)
+//     ≡ quarter_round (at a) (at b) (at c) (at d) }
 #[inline(always)]
 pub(super) fn quarter_round(
     a: u32x4,
@@ -36,6 +45,7 @@ pub(super) fn quarter_round(
     (a2, b2, c2, d2)
 }
 
+// ensures { (j : ℕ) → j < 4 → lane j result ≡ double_round (lane j x) }
 #[inline(always)]
 fn double_round(x: States) -> States {
     let (x0, x4, x8, x12) = quarter_round(x[0], x[4], x[8], x[12]);
@@ -52,6 +62,8 @@ fn double_round(x: States) -> States {
 }
 
 /// Returns four copies of a state, whose block counters (word 12) count up from its own.
+// ensures { (j : ℕ) → j < 4
+//     → lane j result ≡ slice_set state.now 12 (add32 (slice_index state.now 12) j) }
 fn four_states(state: &State) -> States {
     [
         u32x4::splat(state[0]),
@@ -75,6 +87,10 @@ fn four_states(state: &State) -> States {
 
 /// Computes the blocks of a state and of those of the next three block counters, and returns their words,
 /// one block after another.
+// ensures { (j k : ℕ) → j < 4 → k < 16 →
+//     let counted = slice_set state.now 12 (add32 (slice_index state.now 12) j) in
+//     slice_index result (16 * j + k)
+//     ≡ slice_index (zip2 add32 (iterate double_round 10 counted) counted) k }
 pub(super) fn four_blocks(state: &State) -> [u32; 64] {
     let states = four_states(state);
     let mut x = states;

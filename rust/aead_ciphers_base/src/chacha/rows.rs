@@ -7,6 +7,8 @@ use simd::u32x4;
 
 /// Applies a quarter round to each column, and then to each diagonal, which becomes a column when the
 /// rows are rotated.
+// ensures { state_of_rows result.0 result.1 result.2 result.3
+//     ≡ double_round (state_of_rows a b c d) }
 #[inline(always)]
 fn double_round(a: u32x4, b: u32x4, c: u32x4, d: u32x4) -> (u32x4, u32x4, u32x4, u32x4) {
     let (a1, b1, c1, d1) = quarter_round(a, b, c, d);
@@ -25,6 +27,7 @@ fn double_round(a: u32x4, b: u32x4, c: u32x4, d: u32x4) -> (u32x4, u32x4, u32x4,
 }
 
 /// Computes the block of an initial state.
+// ensures { result ≡ state_block state.now }
 pub(super) fn state_block(state: &State) -> [u8; BLOCK_LEN] {
     let a = u32x4::from_slice(&state[..4]);
     let b = u32x4::from_slice(&state[4..8]);

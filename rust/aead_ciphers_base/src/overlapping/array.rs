@@ -19,15 +19,18 @@ impl<'o, T, const N: usize> Array<'o, T, N> {
     /// <details><summary>Contract</summary>
     ///
     /// ```text
-    /// ensures* kept { sem 𝓛 (KeptIfErr T.row in_out.entry.in_out (λ a. a.in_out.in_out.ghost_name) result) }
     /// ensures accepted { IsOk result ↔ ((0 < N) × (input_len in_out.entry ≡ N)) }
-    /// ensures same_reference { IfOk result (λ a. a.in_out.in_out.ghost_name ≡ in_out.entry.in_out.ghost_name) }
+    /// ensures same_reference { IfOk result
+    ///     (λ a. a.in_out.in_out.ghost_name ≡ in_out.entry.in_out.ghost_name) }
     /// ensures items { IfOk result (λ a. a.in_out.in_out.now ≡ in_out.entry.in_out.now) }
     /// ensures start { IfOk result (λ a. a.in_out.start ≡ in_out.entry.start) }
     /// ensures refused { IfErr result (λ e. e ≡ N) }
+    /// ensures* kept { sem 𝓛 (KeptIfErr T.row in_out.entry.in_out
+    ///     (λ a. a.in_out.in_out.ghost_name) result) }
     /// ```
     ///
-    /// Definitions: [`KeptIfErr`](crate::specs::overlapping#KeptIfErr), [`input_len`](crate::specs::overlapping#input_len).
+    /// Definitions: [`input_len`](crate::specs::overlapping#input_len),
+    /// [`KeptIfErr`](crate::specs::overlapping#KeptIfErr).
     ///
     /// </details>
     #[inline(always)]
@@ -63,8 +66,8 @@ impl<'o, T, const N: usize> Array<'o, T, N> {
     /// <details><summary>Contract</summary>
     ///
     /// ```text
-    /// ensures* writes_back { sem 𝓛 (LendsOutput T.row self.entry.in_out.in_out result N) }
     /// ensures items { result.now ≡ take N self.entry.in_out.in_out.now }
+    /// ensures* writes_back { sem 𝓛 (LendsOutput T.row self.entry.in_out.in_out result N) }
     /// ```
     ///
     /// Definitions: [`LendsOutput`](crate::specs::overlapping#LendsOutput).
@@ -76,6 +79,8 @@ impl<'o, T, const N: usize> Array<'o, T, N> {
     }
 
     /// Consumes the buffer, and returns the whole slice.
+    // ensures same_reference { result.ghost_name ≡ self.entry.in_out.in_out.ghost_name }
+    // ensures items { result.now ≡ self.entry.in_out.in_out.now }
     #[inline(always)]
     fn into_slice(self) -> &'o mut [T] {
         let Overlapping { in_out, .. } = self.in_out;
@@ -84,6 +89,9 @@ impl<'o, T, const N: usize> Array<'o, T, N> {
 }
 
 /// Returns the first `N` items of a slice, for writing.
+// requires { N ≤ length items.old }
+// ensures value { result.now ≡ take N items.old }
+// ensures* writes_back { sem 𝓛 (LendsOutput T.row items.entry result N) }
 #[inline(always)]
 fn first_array<T, const N: usize>(items: &mut [T]) -> &mut [T; N] {
     match items.first_chunk_mut::<N>() {

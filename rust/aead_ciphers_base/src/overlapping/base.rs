@@ -43,12 +43,12 @@ impl<'o, T> Overlapping<'o, T> {
     /// <details><summary>Contract</summary>
     ///
     /// ```text
-    /// ensures* kept { sem 𝓛 (KeptIfErr T.row in_out.entry (λ o. o.in_out.ghost_name) result) }
     /// ensures accepted { IsOk result ↔ (src.start ≤ length in_out.old) }
     /// ensures same_reference { IfOk result (λ o. o.in_out.ghost_name ≡ in_out.entry.ghost_name) }
     /// ensures items { IfOk result (λ o. o.in_out.now ≡ in_out.old) }
     /// ensures start { IfOk result (λ o. o.start ≡ src.start) }
     /// ensures refused { IfErr result (λ e. e ≡ src.start) }
+    /// ensures* kept { sem 𝓛 (KeptIfErr T.row in_out.entry (λ o. o.in_out.ghost_name) result) }
     /// ```
     ///
     /// Definitions: [`KeptIfErr`](crate::specs::overlapping#KeptIfErr).
@@ -135,11 +135,13 @@ impl<'o, T> Overlapping<'o, T> {
     /// <details><summary>Contract</summary>
     ///
     /// ```text
-    /// ensures* writes_back { sem 𝓛 (LendsOutput T.row self.entry.in_out result (input_len self.entry)) }
     /// ensures items { result.now ≡ take (input_len self.entry) self.entry.in_out.now }
+    /// ensures* writes_back { sem 𝓛 (LendsOutput T.row self.entry.in_out result
+    ///     (input_len self.entry)) }
     /// ```
     ///
-    /// Definitions: [`LendsOutput`](crate::specs::overlapping#LendsOutput), [`input_len`](crate::specs::overlapping#input_len).
+    /// Definitions: [`input_len`](crate::specs::overlapping#input_len),
+    /// [`LendsOutput`](crate::specs::overlapping#LendsOutput).
     ///
     /// </details>
     #[inline(always)]
@@ -151,6 +153,9 @@ impl<'o, T> Overlapping<'o, T> {
 
     /// Copies the input to the front of the slice, and returns the buffer. The items after the copy are
     /// unchanged.
+    // ensures same_reference { result.in_out.ghost_name ≡ self.entry.in_out.ghost_name }
+    // ensures items { result.in_out.now ≡ input_of self.entry ++ after_output self.entry }
+    // ensures start { result.start ≡ self.entry.start }
     #[inline(always)]
     fn copied_to_front(self) -> Self
     where
@@ -166,11 +171,13 @@ impl<'o, T> Overlapping<'o, T> {
     /// <details><summary>Contract</summary>
     ///
     /// ```text
-    /// ensures* writes_back { sem 𝓛 (LendsOutput T.row self.entry.in_out result (input_len self.entry)) }
     /// ensures items { result.now ≡ input_of self.entry }
+    /// ensures* writes_back { sem 𝓛 (LendsOutput T.row self.entry.in_out result
+    ///     (input_len self.entry)) }
     /// ```
     ///
-    /// Definitions: [`LendsOutput`](crate::specs::overlapping#LendsOutput), [`input_len`](crate::specs::overlapping#input_len), [`input_of`](crate::specs::overlapping#input_of).
+    /// Definitions: [`input_of`](crate::specs::overlapping#input_of),
+    /// [`LendsOutput`](crate::specs::overlapping#LendsOutput), [`input_len`](crate::specs::overlapping#input_len).
     ///
     /// </details>
     #[inline(always)]
@@ -182,6 +189,17 @@ impl<'o, T> Overlapping<'o, T> {
     }
 
     /// Maps the first chunk of the input with `f`, if there is one, and returns the buffer.
+    // requires { C.chunk_len ≤ input_len self
+    //     → TakesChunk C.chunk_items F.FnOnce C.chunk_len f (input_of self) }
+    // ensures same_reference { result.in_out.ghost_name ≡ self.entry.in_out.ghost_name }
+    // ensures mapped { C.chunk_len ≤ input_len self.entry
+    //     → MapsChunk C.chunk_items F.FnOnce C.chunk_len f self.entry.in_out.now self.entry.start
+    //     result.in_out.now }
+    // ensures kept { input_len self.entry < C.chunk_len
+    //     → result.in_out.now ≡ self.entry.in_out.now }
+    // ensures same_length { length result.in_out.now ≡ length self.entry.in_out.now }
+    // ensures start { result.start ≡ self.entry.start }
+    // ensures count { result.count ≡ C.chunk_len }
     #[inline(always)]
     fn first_chunk_mapped<C: Chunk<T>, F: FnOnce(&C) -> C>(self, f: F) -> FirstMapped<'o, T> {
         let Overlapping { in_out, start } = self;
@@ -205,15 +223,19 @@ impl<'o, T> Overlapping<'o, T> {
     /// <details><summary>Contract</summary>
     ///
     /// ```text
-    /// requires { C.chunk_len ≤ input_len self → TakesChunk C.chunk_items F.FnOnce C.chunk_len f (input_of self) }
-    /// ensures* writes_back { sem 𝓛 (LendsRest T.row C.chunk_items F.FnOnce C.chunk_len f self.entry result) }
+    /// requires { C.chunk_len ≤ input_len self
+    ///     → TakesChunk C.chunk_items F.FnOnce C.chunk_len f (input_of self) }
     /// ensures accepted { IsOk result ↔ (C.chunk_len ≤ input_len self.entry) }
     /// ensures rest { IfOk result (λ o. o.in_out.now ≡ drop C.chunk_len self.entry.in_out.now) }
     /// ensures start { IfOk result (λ o. o.start ≡ self.entry.start) }
     /// ensures refused { IfErr result (λ e. e ≡ C.chunk_len) }
+    /// ensures* writes_back { sem 𝓛 (LendsRest T.row C.chunk_items F.FnOnce C.chunk_len f
+    ///     self.entry result) }
     /// ```
     ///
-    /// Definitions: [`input_len`](crate::specs::overlapping#input_len), [`TakesChunk`](crate::specs::overlapping#TakesChunk), [`input_of`](crate::specs::overlapping#input_of), [`LendsRest`](crate::specs::overlapping#LendsRest).
+    /// Definitions: [`input_len`](crate::specs::overlapping#input_len),
+    /// [`TakesChunk`](crate::specs::overlapping#TakesChunk), [`input_of`](crate::specs::overlapping#input_of),
+    /// [`LendsRest`](crate::specs::overlapping#LendsRest).
     ///
     /// </details>
     #[inline(always)]

@@ -72,6 +72,8 @@ impl<T, const N: usize> Chunk<T> for [T; N] {
 }
 
 /// Returns the chunk that starts at `start`.
+// requires { start + C.chunk_len ≤ length items.now }
+// ensures { C.chunk_items result.now ≡ take C.chunk_len (drop start items.now) }
 #[inline(always)]
 pub(crate) fn chunk_at<T, C: Chunk<T>>(items: &[T], start: usize) -> &C {
     let rest = &items[start..];
@@ -82,6 +84,9 @@ pub(crate) fn chunk_at<T, C: Chunk<T>>(items: &[T], start: usize) -> &C {
 }
 
 /// Maps the chunk that starts at `start` with `f`, and writes the result to the front of the slice.
+// requires callable { TakesChunk C.chunk_items F.FnOnce C.chunk_len f (drop start in_out.old) }
+// requires room { start + C.chunk_len ≤ length in_out.old }
+// ensures { MapsChunk C.chunk_items F.FnOnce C.chunk_len f in_out.old start in_out.new }
 #[inline(always)]
 pub(crate) fn map_chunk<T, C: Chunk<T>, F: FnOnce(&C) -> C>(in_out: &mut [T], start: usize, f: F) {
     let count = C::chunk_len();

@@ -4,6 +4,7 @@
 use super::Overlapping;
 use crate::error::InputTooLongError;
 
+// ensures { result ≡ len }
 #[inline(always)]
 fn too_long(len: usize) -> InputTooLongError {
     InputTooLongError::new(len)
@@ -26,15 +27,18 @@ impl<'i, T, const BLOCK_LEN: usize> PartialBlock<'i, T, BLOCK_LEN> {
     /// <details><summary>Contract</summary>
     ///
     /// ```text
-    /// ensures* kept { sem 𝓛 (KeptIfErr T.row in_out.entry.in_out (λ b. b.in_out.ghost_name) result) }
     /// ensures accepted { IsOk result ↔ (input_len in_out.entry < BLOCK_LEN) }
-    /// ensures same_reference { IfOk result (λ b. b.in_out.ghost_name ≡ in_out.entry.in_out.ghost_name) }
+    /// ensures same_reference { IfOk result
+    ///     (λ b. b.in_out.ghost_name ≡ in_out.entry.in_out.ghost_name) }
     /// ensures items { IfOk result (λ b. b.in_out.now ≡ in_out.entry.in_out.now) }
     /// ensures start { IfOk result (λ b. b.start ≡ in_out.entry.start) }
     /// ensures refused { IfErr result (λ e. e ≡ input_len in_out.entry) }
+    /// ensures* kept { sem 𝓛 (KeptIfErr T.row in_out.entry.in_out
+    ///     (λ b. b.in_out.ghost_name) result) }
     /// ```
     ///
-    /// Definitions: [`KeptIfErr`](crate::specs::overlapping#KeptIfErr), [`input_len`](crate::specs::overlapping#input_len).
+    /// Definitions: [`input_len`](crate::specs::overlapping#input_len),
+    /// [`KeptIfErr`](crate::specs::overlapping#KeptIfErr).
     ///
     /// </details>
     #[inline(always)]
@@ -81,7 +85,9 @@ impl<'i, T, const BLOCK_LEN: usize> PartialBlock<'i, T, BLOCK_LEN> {
     /// <details><summary>Contract</summary>
     ///
     /// ```text
-    /// ensures { self.exit.0.now ≡ take (length self.entry.in_out.now - self.entry.start) padded ++ drop (length self.entry.in_out.now - self.entry.start) self.entry.in_out.now }
+    /// ensures { self.exit.0.now
+    ///     ≡ take (length self.entry.in_out.now - self.entry.start) padded
+    ///     ++ drop (length self.entry.in_out.now - self.entry.start) self.entry.in_out.now }
     /// ```
     ///
     /// </details>

@@ -75,7 +75,8 @@ impl HeaderProtectionKey {
     ///
     /// ```text
     /// ensures accepted { IsOk result ↔ (length sample.now ≡ 16) }
-    /// ensures mask { IfOk result (λ mask. mask ≡ header_protection self.now.algorithm self.now.bytes sample.now) }
+    /// ensures mask { IfOk result (λ mask.
+    ///     mask ≡ header_protection self.now.algorithm self.now.bytes sample.now) }
     /// ```
     ///
     /// Definitions: [`header_protection`](aead_ciphers::specs::header_protection#header_protection).

@@ -12,6 +12,8 @@ use aead_ciphers_base::aes::{Block, first_rounds, last_round};
 impl<'k, V: simd::Level> KeyRef<'k, V> {
     /// Encrypts each of the eight blocks that are the bytes of eight words (FIPS 197 section 5.1), in one pass over the planes.
     /// No `Work` counts them.
+    // ensures { (k : ℕ) → k < 8 → slice_index_or result k []
+    //     ≡ aes self.now (to_le_bytes w128 (slice_index words k)) }
     #[inline(always)]
     pub(crate) fn encrypt_eight(&self, words: [Word<V>; 8]) -> [Block; 8] {
         let planes = self.planes;
@@ -22,6 +24,8 @@ impl<'k, V: simd::Level> KeyRef<'k, V> {
 
     /// Encrypts each of the sixteen blocks that are the bytes of the halves of eight words (FIPS 197 section 5.1), in one pass
     /// over the planes. No `Work` counts them.
+    // ensures { (k : ℕ) → k < 16 → slice_index_or result k []
+    //     ≡ aes self.now (to_le_bytes w128 (half_of (k % 2) (slice_index words (k / 2)))) }
     #[inline(always)]
     pub(crate) fn encrypt_sixteen(&self, words: [WiderWord<V>; 8]) -> [Block; 16] {
         let planes = self.planes;

@@ -118,7 +118,8 @@ impl<'k, V: simd::Level> BlockKeyRef<'k, V> {
     /// ensures { result ≡ key_of round_keys.now rounds }
     /// ```
     ///
-    /// Definitions: [`IsSchedule`](crate::specs::wide_schedule#IsSchedule), [`key_of`](crate::specs::wide_schedule#key_of).
+    /// Definitions: [`IsSchedule`](crate::specs::wide_schedule#IsSchedule),
+    /// [`key_of`](crate::specs::wide_schedule#key_of).
     ///
     /// </details>
     #[inline(always)]
@@ -150,6 +151,7 @@ impl<'k, V: simd::Level> BlockKeyRef<'k, V> {
     }
 
     /// Encrypts a block (FIPS 197 section 5.1). No `Work` counts it.
+    // ensures { result ≡ aes self.now block }
     #[inline(always)]
     pub(crate) fn encrypt_one(&self, block: Block) -> Block {
         let round_keys = self.round_keys;
@@ -162,6 +164,8 @@ impl<'k, V: simd::Level> BlockKeyRef<'k, V> {
     }
 
     /// Encrypts two blocks, with a round of each in turn, since a round waits for the one before it. No `Work` counts them.
+    // ensures first { result.0 ≡ aes self.now first }
+    // ensures second { result.1 ≡ aes self.now second }
     #[inline(always)]
     pub(crate) fn encrypt_two(&self, first: Block, second: Block) -> (Block, Block) {
         let round_keys = self.round_keys;

@@ -10,7 +10,8 @@ use simd::{u8x16, u32x4};
 /// <details><summary>Contract</summary>
 ///
 /// ```text
-/// ensures { (nonce : List ℕ) (k : ℕ) → IsCounter counter.now nonce k → (i : ℕ) → i < 8 → IsCounter (to_le_bytes w128 (slice_index result i)) nonce (k + i) }
+/// ensures { (nonce : List ℕ) (k : ℕ) → IsCounter counter.now nonce k → (i : ℕ) → i < 8
+///     → IsCounter (to_le_bytes w128 (slice_index result i)) nonce (k + i) }
 /// ```
 ///
 /// Definitions: [`IsCounter`](aead_ciphers_base::specs::counter_mode#IsCounter).
@@ -37,10 +38,12 @@ pub fn counters<V: simd::Level>(counter: &Counter) -> [Word<V>; 8] {
 /// <details><summary>Contract</summary>
 ///
 /// ```text
-/// ensures { (nonce : List ℕ) (k : ℕ) → IsCounter counter.now nonce k → (i : ℕ) → i < 16 → IsCounter (to_le_bytes w128 (half_of (i % 2) (slice_index result (i / 2)))) nonce (k + i) }
+/// ensures { (nonce : List ℕ) (k : ℕ) → IsCounter counter.now nonce k → (i : ℕ) → i < 16
+///     → IsCounter (to_le_bytes w128 (half_of (i % 2) (slice_index result (i / 2)))) nonce (k + i) }
 /// ```
 ///
-/// Definitions: [`IsCounter`](aead_ciphers_base::specs::counter_mode#IsCounter), [`half_of`](crate::specs::word#half_of).
+/// Definitions: [`IsCounter`](aead_ciphers_base::specs::counter_mode#IsCounter),
+/// [`half_of`](crate::specs::word#half_of).
 ///
 /// </details>
 #[inline(always)]
@@ -60,6 +63,8 @@ pub fn sixteen_counters<V: simd::Level>(counter: &Counter) -> [WiderWord<V>; 8] 
 }
 
 /// Returns two counter blocks, `low` and `high` after `block`, as the bytes of the halves of one word.
+// ensures low { to_le_bytes w128 (half_of 0 result) ≡ counter_block (take 12 block) (number + low) }
+// ensures high { to_le_bytes w128 (half_of 1 result) ≡ counter_block (take 12 block) (number + high) }
 #[inline(always)]
 fn two_counters<V: simd::Level>(block: Block, number: u32, low: u32, high: u32) -> WiderWord<V> {
     WiderWord::<V>::new(
@@ -69,6 +74,7 @@ fn two_counters<V: simd::Level>(block: Block, number: u32, low: u32, high: u32) 
 }
 
 /// Returns the counter block `more` after `block`, as the bytes of a word.
+// ensures { to_le_bytes w128 result ≡ counter_block (take 12 block) (number + more) }
 #[inline(always)]
 fn counter_more<V: simd::Level>(block: Block, number: u32, more: u32) -> Word<V> {
     let numbers = (u32x4::splat(number) + u32x4::from_array([0, 0, 0, more])).to_le_bytes();

@@ -44,6 +44,13 @@ impl<'k, V: simd::Level> EncryptCtr32 for KeyRef<'k, V> {
 }
 
 /// Encrypts the one to sixteen blocks from `start` on, and writes them to the front.
+// requires within { start ≤ length in_out.old }
+// requires whole { (length in_out.old - start) % 16 ≡ 0 }
+// requires short { length in_out.old - start ≤ LONG_BATCH_LEN }
+// requires sums { CanAdd work.old ((length in_out.old - start) / 16) 0 }
+// ensures output { EncryptsToFront (aes key.now) counter.old start in_out.old in_out.new }
+// ensures counter { Advances counter.old counter.new ((length in_out.old - start) / 16) }
+// ensures worked { Adds work.old work.new ((length in_out.old - start) / 16) 0 }
 #[inline(always)]
 fn encrypt_batch<V: simd::Level>(
     key: &KeyRef<'_, V>,
@@ -65,6 +72,9 @@ fn encrypt_batch<V: simd::Level>(
 }
 
 /// Encrypts the `count` blocks from `start` on in one pass over planes of 128 bits, and writes them to the front.
+// requires within { length in_out.old ≡ start + 16 * count }
+// requires count { count ≤ MANY }
+// ensures { EncryptsToFront (aes key.now) counter.now start in_out.old in_out.new }
 #[inline(always)]
 fn encrypt_up_to_eight<V: simd::Level>(
     key: &KeyRef<'_, V>,
@@ -117,6 +127,9 @@ impl<V: simd::Level> simd::Call for EncryptUpToEight<'_, V> {
 }
 
 /// Encrypts the `count` blocks from `start` on in one pass over planes of 256 bits, and writes them to the front.
+// requires within { length in_out.old ≡ start + 16 * count }
+// requires count { count ≤ 16 }
+// ensures { EncryptsToFront (aes key.now) counter.now start in_out.old in_out.new }
 #[inline(always)]
 fn encrypt_up_to_sixteen<V: simd::Level>(
     key: &KeyRef<'_, V>,
@@ -168,6 +181,9 @@ impl<V: simd::Level> simd::Call for EncryptUpToSixteen<'_, V> {
 }
 
 /// Encrypts the `count` blocks from `start` on, at most four, two at a time, by byte permutes, and writes them to the front.
+// requires within { length in_out.old ≡ start + 16 * count }
+// requires few { count ≤ FEW }
+// ensures { EncryptsToFront (aes key.now) counter.now start in_out.old in_out.new }
 #[inline(always)]
 fn encrypt_few<V: simd::Level>(
     key: &BlockKeyRef<'_, V>,
@@ -226,6 +242,11 @@ impl<V: simd::Level> simd::Call for EncryptFew<'_, V> {
 }
 
 /// Adds the first `count` blocks of keystream to those from `start` on, and writes the sums to the front.
+// requires within { length in_out.old ≡ start + 16 * count }
+// requires count { count ≤ N }
+// requires keystream { (i : ℕ) → i < count
+//     → IsKeystream (aes key.now) counter.now (slice_index_or keystream i []) i }
+// ensures { EncryptsToFront (aes key.now) counter.now start in_out.old in_out.new }
 #[inline(always)]
 fn add_keystream<const N: usize, V: simd::Level>(
     _key: &KeyRef<'_, V>,
@@ -242,6 +263,9 @@ fn add_keystream<const N: usize, V: simd::Level>(
 }
 
 /// Adds `block` to the block at `from`, and writes the sum to `at`.
+// requires read { from + 16 ≤ length in_out.old }
+// requires written { at + 16 ≤ length in_out.old }
+// ensures { in_out.new ≡ put_chunk at in_out.old (chunk from 16 in_out.old ⊕ block) }
 #[inline(always)]
 fn add_block<V: simd::Level>(in_out: &mut [u8], at: usize, from: usize, block: Block) {
     let sum = u8x16::<V>::from_slice(&in_out[from..]) ^ u8x16::<V>::from_array(block);

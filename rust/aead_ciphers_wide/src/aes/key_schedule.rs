@@ -12,6 +12,8 @@ use simd::u8x16;
 const ROUND_CONSTANTS: [u8; 10] = [0x01, 0x02, 0x04, 0x08, 0x10, 0x20, 0x40, 0x80, 0x1b, 0x36];
 
 /// Returns a vector each of whose columns is round constant `n`.
+// requires { n < 10 }
+// ensures { result ≡ state (λ r c. if r == 0 then power_of_x n else 0) }
 #[inline(always)]
 fn round_constant<V: simd::Level>(n: usize) -> u8x16<V> {
     let x = ROUND_CONSTANTS[n];
@@ -19,6 +21,7 @@ fn round_constant<V: simd::Level>(n: usize) -> u8x16<V> {
 }
 
 /// Moves each column to the next place. The first becomes zero.
+// ensures { result ≡ state (λ r c. if c == 0 then 0 else at block r (c - 1)) }
 #[inline(always)]
 fn shift_columns_by_one<V: simd::Level>(block: u8x16<V>) -> u8x16<V> {
     look_up(
@@ -28,6 +31,7 @@ fn shift_columns_by_one<V: simd::Level>(block: u8x16<V>) -> u8x16<V> {
 }
 
 /// Moves each column by two places. The first two become zero.
+// ensures { result ≡ state (λ r c. if nat_lt c 2 then 0 else at block r (c - 2)) }
 #[inline(always)]
 fn shift_columns_by_two<V: simd::Level>(block: u8x16<V>) -> u8x16<V> {
     look_up(
@@ -39,6 +43,7 @@ fn shift_columns_by_two<V: simd::Level>(block: u8x16<V>) -> u8x16<V> {
 }
 
 /// Returns a vector each of whose columns is the last column.
+// ensures { result ≡ state (λ r c. at block r 3) }
 #[inline(always)]
 fn last_column<V: simd::Level>(block: u8x16<V>) -> u8x16<V> {
     block.swizzle([
@@ -47,6 +52,7 @@ fn last_column<V: simd::Level>(block: u8x16<V>) -> u8x16<V> {
 }
 
 /// Returns a vector each of whose columns is RotWord of the last column.
+// ensures { result ≡ state (λ r c. at block ((r + 1) % 4) 3) }
 #[inline(always)]
 fn rotated_column<V: simd::Level>(block: u8x16<V>) -> u8x16<V> {
     block.swizzle([
@@ -55,12 +61,16 @@ fn rotated_column<V: simd::Level>(block: u8x16<V>) -> u8x16<V> {
 }
 
 /// Returns a vector each of whose columns is SubWord of RotWord of the last column, with round constant `i` added.
+// requires { i < 10 }
+// ensures { (c : ℕ) → c < 4 → column result c
+//     ≡ sub_word (rot_word (column last 3)) ⊕ (power_of_x i ∷ 0 ∷ 0 ∷ 0 ∷ []) }
 #[inline(always)]
 fn sub_rot_last_word<V: simd::Level>(last: u8x16<V>, i: usize) -> u8x16<V> {
     sub_each(rotated_column(last)) ^ round_constant::<V>(i)
 }
 
 /// Returns a vector each of whose columns is SubWord of the last column.
+// ensures { (c : ℕ) → c < 4 → column result c ≡ sub_word (column last 3) }
 #[inline(always)]
 fn sub_last_word<V: simd::Level>(last: u8x16<V>) -> u8x16<V> {
     sub_each(last_column(last))
@@ -68,6 +78,12 @@ fn sub_last_word<V: simd::Level>(last: u8x16<V>) -> u8x16<V> {
 
 /// Returns a vector each of whose columns is the last word before round key `n` of a key of `m` blocks, transformed as it is before
 /// it is added to the first word of that round key.
+// requires blocks { 0 < m }
+// requires from { m ≤ n }
+// requires below { n / m ≤ 10 }
+// ensures turned { n % m ≡ 0 → (c : ℕ) → c < 4 → column result c
+//     ≡ sub_word (rot_word (column last 3)) ⊕ (power_of_x (n / m - 1) ∷ 0 ∷ 0 ∷ 0 ∷ []) }
+// ensures middle { n % m ≢ 0 → (c : ℕ) → c < 4 → column result c ≡ sub_word (column last 3) }
 #[inline(always)]
 fn transformed<V: simd::Level>(last: u8x16<V>, n: usize, m: usize) -> u8x16<V> {
     if n % m == 0 {
@@ -78,6 +94,9 @@ fn transformed<V: simd::Level>(last: u8x16<V>, n: usize, m: usize) -> u8x16<V> {
 }
 
 /// Returns the words each of which is the sum of the word in `back` and of the word before it, which is `word` for the first.
+// requires { (c : ℕ) → c < 4 → column word c ≡ column word 0 }
+// ensures first { column result 0 ≡ column back 0 ⊕ column word 0 }
+// ensures others { (c : ℕ) → c < 3 → column result (c + 1) ≡ column back (c + 1) ⊕ column result c }
 #[inline(always)]
 fn next_round_key<V: simd::Level>(back: u8x16<V>, word: u8x16<V>) -> u8x16<V> {
     let two = back ^ shift_columns_by_one(back);
@@ -86,6 +105,10 @@ fn next_round_key<V: simd::Level>(back: u8x16<V>, word: u8x16<V>) -> u8x16<V> {
 }
 
 /// Copies the key to the first round keys.
+// requires { length key.now ≤ 240 }
+// ensures later { (j : ℕ) → length key.now / 16 ≤ j → key_at round_keys.new j ≡ key_at round_keys.old j }
+// ensures copied { (j k : ℕ) → j < length key.now / 16 → k < 16
+//     → slice_index (key_at round_keys.new j) k ≡ slice_index key.now (16 * j + k) }
 #[inline(always)]
 fn copy_key(round_keys: &mut RoundKeys, key: &[u8]) {
     for n in 0..key.len() / BLOCK_LEN {
@@ -101,11 +124,14 @@ fn copy_key(round_keys: &mut RoundKeys, key: &[u8]) {
 ///
 /// ```text
 /// requires { (length key.now ≡ 16) ⊎ (length key.now ≡ 32) }
-/// ensures words { let nk = length key.now / 4 in HoldsWords round_keys.new (key_words nk key.now (4 * (nk + 7) - nk)) (nk + 7) }
+/// ensures words { let nk = length key.now / 4 in
+///     HoldsWords round_keys.new (key_words nk key.now (4 * (nk + 7) - nk)) (nk + 7) }
 /// ensures unused { AreZerosAfter round_keys.new (length key.now / 4 + 6) }
 /// ```
 ///
-/// Definitions: [`HoldsWords`](crate::specs::wide_schedule#HoldsWords), [`key_words`](aead_ciphers_base::specs::aes#key_words), [`AreZerosAfter`](crate::specs::wide_schedule#AreZerosAfter).
+/// Definitions: [`HoldsWords`](crate::specs::wide_schedule#HoldsWords),
+/// [`key_words`](aead_ciphers_base::specs::aes#key_words),
+/// [`AreZerosAfter`](crate::specs::wide_schedule#AreZerosAfter).
 ///
 /// </details>
 #[inline(always)]

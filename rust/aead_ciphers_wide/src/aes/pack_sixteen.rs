@@ -13,7 +13,8 @@ use aead_ciphers_base::aes::Block;
 /// <details><summary>Contract</summary>
 ///
 /// ```text
-/// ensures { (k : ℕ) → k < 16 → wider_block result k ≡ to_le_bytes w128 (half_of (k % 2) (slice_index words (k / 2))) }
+/// ensures { (k : ℕ) → k < 16
+///     → wider_block result k ≡ to_le_bytes w128 (half_of (k % 2) (slice_index words (k / 2))) }
 /// ```
 ///
 /// Definitions: [`wider_block`](crate::specs::wide_planes#wider_block), [`half_of`](crate::specs::word#half_of).
@@ -25,6 +26,8 @@ pub fn pack_sixteen<V: simd::Level>(words: [WiderWord<V>; 8]) -> [WiderWord<V>; 
 }
 
 /// The blocks of the bytes of the two halves of a word.
+// ensures low { result.0 ≡ to_le_bytes w128 (half_of 0 word) }
+// ensures high { result.1 ≡ to_le_bytes w128 (half_of 1 word) }
 #[inline(always)]
 fn blocks_of_halves<V: simd::Level>(word: WiderWord<V>) -> (Block, Block) {
     let (low, high) = word.halves();

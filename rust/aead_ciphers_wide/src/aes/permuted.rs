@@ -45,6 +45,7 @@ const FROM_JO: [u8; 16] = [
 ];
 
 /// Replaces each byte by its S-box value (FIPS 197 section 5.1.1).
+// ensures { result ≡ map sbox bytes }
 #[inline(always)]
 pub(crate) fn sub_each<V: simd::Level>(bytes: u8x16<V>) -> u8x16<V> {
     let fifteen = u8x16::<V>::splat(15);
@@ -64,6 +65,7 @@ pub(crate) fn sub_each<V: simd::Level>(bytes: u8x16<V>) -> u8x16<V> {
 }
 
 /// Multiplies each byte by {02}, the polynomial x (FIPS 197 section 4.2).
+// ensures { result ≡ map (mul8 2) bytes }
 #[inline(always)]
 fn times_x<V: simd::Level>(bytes: u8x16<V>) -> u8x16<V> {
     let tops = bytes >> u8x16::<V>::splat(7);
@@ -71,24 +73,28 @@ fn times_x<V: simd::Level>(bytes: u8x16<V>) -> u8x16<V> {
 }
 
 /// Shifts the rows (FIPS 197 section 5.1.2).
+// ensures { result ≡ shift_rows block }
 #[inline(always)]
 fn shift_rows<V: simd::Level>(block: u8x16<V>) -> u8x16<V> {
     block.swizzle([0, 5, 10, 15, 4, 9, 14, 3, 8, 13, 2, 7, 12, 1, 6, 11])
 }
 
 /// Moves the byte of each row up by one row, cyclically.
+// ensures { result ≡ state (λ r c. at block ((r + 1) % 4) c) }
 #[inline(always)]
 fn rows_up_by_one<V: simd::Level>(block: u8x16<V>) -> u8x16<V> {
     block.swizzle([1, 2, 3, 0, 5, 6, 7, 4, 9, 10, 11, 8, 13, 14, 15, 12])
 }
 
 /// Moves the byte of each row up by two rows, cyclically.
+// ensures { result ≡ state (λ r c. at block ((r + 2) % 4) c) }
 #[inline(always)]
 fn rows_up_by_two<V: simd::Level>(block: u8x16<V>) -> u8x16<V> {
     block.swizzle([2, 3, 0, 1, 6, 7, 4, 5, 10, 11, 8, 9, 14, 15, 12, 13])
 }
 
 /// Mixes the columns (FIPS 197 section 5.1.3).
+// ensures { result ≡ mix_columns block }
 #[inline(always)]
 fn mix_columns<V: simd::Level>(block: u8x16<V>) -> u8x16<V> {
     let below = rows_up_by_one(block);
@@ -97,18 +103,23 @@ fn mix_columns<V: simd::Level>(block: u8x16<V>) -> u8x16<V> {
 }
 
 /// Adds a round key (FIPS 197 section 5.1.4).
+// ensures { result ≡ state (λ r c. at block r c ⊻ at round_key.now r c) }
 #[inline(always)]
 pub(crate) fn add_round_key<V: simd::Level>(block: u8x16<V>, round_key: &Block) -> u8x16<V> {
     block ^ u8x16::<V>::from_array(*round_key)
 }
 
 /// Applies SubBytes, ShiftRows and MixColumns, and adds a round key (FIPS 197 section 5.1).
+// ensures { let mixed = mix_columns (shift_rows (sub_bytes block)) in
+//     result ≡ state (λ r c. at mixed r c ⊻ at round_key.now r c) }
 #[inline(always)]
 pub(crate) fn round<V: simd::Level>(block: u8x16<V>, round_key: &Block) -> u8x16<V> {
     add_round_key(mix_columns(shift_rows(sub_each(block))), round_key)
 }
 
 /// Does the same as `round` without MixColumns, as in the last round.
+// ensures { let shifted = shift_rows (sub_bytes block) in
+//     result ≡ state (λ r c. at shifted r c ⊻ at round_key.now r c) }
 #[inline(always)]
 pub(crate) fn last_round<V: simd::Level>(block: u8x16<V>, round_key: &Block) -> u8x16<V> {
     add_round_key(shift_rows(sub_each(block)), round_key)

@@ -32,6 +32,7 @@ impl<V: simd::Level> RoundKeyPlanes<Word<V>> for KeyPlanes {
 }
 
 /// The word both of whose halves have these lanes, the least significant first.
+// ensures { result ≡ twice (high * 2 ^ 64 + low) }
 #[inline(always)]
 fn both_halves<V: simd::Level>(low: u64, high: u64) -> WiderWord<V> {
     let half = Word::<V>::new(low, high);
@@ -55,12 +56,18 @@ impl<V: simd::Level> RoundKeyPlanes<WiderWord<V>> for KeyPlanes {
 }
 
 /// Returns the plane of bit `bit` of each digit in two words, the lower word first. The digits are in base 16.
+// requires bit { bit < 4 }
+// requires digits { (i : ℕ) → i < 16 → slice_index digits i < 16 }
+// ensures { (p : ℕ) → p < 128
+//     → bit_at (result.1 * 2 ^ 64 + result.0) p ≡ bit_at (slice_index digits (p / 8)) bit }
 #[inline(always)]
 fn plane_of<V: simd::Level>(digits: u8x16<V>, bit: usize) -> (u64, u64) {
     Word::<V>::filled(digits, bit).lanes()
 }
 
 /// Packs a round key into each of the eight blocks.
+// ensures { (p : ℕ) → p < 128
+//     → plane_byte (planes_of result) p ≡ slice_index block (p / 8) }
 #[inline(always)]
 fn pack_round_key<V: simd::Level>(block: Block) -> KeyPlanes {
     let bytes = u8x16::<V>::from_array(block);
@@ -80,6 +87,8 @@ fn pack_round_key<V: simd::Level>(block: Block) -> KeyPlanes {
 }
 
 /// Returns the bytes of two blocks, one after the other.
+// ensures first { take 16 result ≡ first }
+// ensures second { drop 16 result ≡ second }
 #[inline(always)]
 pub(crate) fn joined(first: Block, second: Block) -> [u8; 32] {
     let mut both = [0; 32];
@@ -90,6 +99,9 @@ pub(crate) fn joined(first: Block, second: Block) -> [u8; 32] {
 
 /// Writes zeros to the places that a key of 10 rounds doesn't use. A key of more rounds then overwrites some. Clearing only
 /// the places after a key's own took three times as many instructions.
+// requires { length rows.old ≡ 15 }
+// ensures size { length rows.new ≡ 15 }
+// ensures cleared { (j : ℕ) (d : T) → 10 < j → j < 15 → slice_index_or rows.new j d ≡ zero }
 #[inline(always)]
 pub(super) fn clear_last_four<T: Copy>(rows: &mut [T], zero: T) {
     for j in 11..15 {
@@ -107,7 +119,8 @@ pub(super) fn clear_last_four<T: Copy>(rows: &mut [T], zero: T) {
 /// ensures unused { 10 ≤ rounds → AreZerosAfter planes.new rounds }
 /// ```
 ///
-/// Definitions: [`HoldsPlanes`](crate::specs::wide_schedule#HoldsPlanes), [`AreZerosAfter`](crate::specs::wide_schedule#AreZerosAfter).
+/// Definitions: [`HoldsPlanes`](crate::specs::wide_schedule#HoldsPlanes),
+/// [`AreZerosAfter`](crate::specs::wide_schedule#AreZerosAfter).
 ///
 /// </details>
 #[inline(always)]

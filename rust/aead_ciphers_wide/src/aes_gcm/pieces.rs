@@ -99,11 +99,14 @@ impl SealState {
     ///
     /// ```text
     /// ensures accepted { IsOk result ↔ Fits (length (aad_bytes aad.entry)) 0 }
-    /// ensures begun { IfOk result (λ s. (cipher : List ℕ → List ℕ) → G.hash_subkey gcm.now ≡ cipher zero_block → HasSealed cipher nonce (aad_bytes aad.entry) [] [] s) }
+    /// ensures begun { IfOk result (λ s. (cipher : List ℕ → List ℕ)
+    ///     → G.hash_subkey gcm.now ≡ cipher zero_block
+    ///     → HasSealed cipher nonce (aad_bytes aad.entry) [] [] s) }
     /// ensures cleared { IfOk result (λ s. s.batch ≡ replicate BATCH_LEN 0) }
     /// ```
     ///
-    /// Definitions: [`Fits`](aead_ciphers::specs::gcm#Fits), [`aad_bytes`](aead_ciphers_base::specs::values#aad_bytes), [`zero_block`](aead_ciphers_base::specs::bytes#zero_block), [`HasSealed`](crate::specs::pieces#HasSealed).
+    /// Definitions: [`Fits`](aead_ciphers::specs::gcm#Fits), [`aad_bytes`](aead_ciphers_base::specs::values#aad_bytes),
+    /// [`zero_block`](aead_ciphers_base::specs::bytes#zero_block), [`HasSealed`](crate::specs::pieces#HasSealed).
     ///
     /// </details>
     #[inline(always)]
@@ -136,11 +139,14 @@ impl SealState {
     ///
     /// ```text
     /// ensures accepted { IsOk result ↔ Fits (length (joined aad.now)) 0 }
-    /// ensures begun { IfOk result (λ s. (cipher : List ℕ → List ℕ) → G.hash_subkey gcm.now ≡ cipher zero_block → HasSealed cipher nonce (joined aad.now) [] [] s) }
+    /// ensures begun { IfOk result (λ s. (cipher : List ℕ → List ℕ)
+    ///     → G.hash_subkey gcm.now ≡ cipher zero_block
+    ///     → HasSealed cipher nonce (joined aad.now) [] [] s) }
     /// ensures cleared { IfOk result (λ s. s.batch ≡ replicate BATCH_LEN 0) }
     /// ```
     ///
-    /// Definitions: [`Fits`](aead_ciphers::specs::gcm#Fits), [`joined`](crate::specs::pieces#joined), [`zero_block`](aead_ciphers_base::specs::bytes#zero_block), [`HasSealed`](crate::specs::pieces#HasSealed).
+    /// Definitions: [`Fits`](aead_ciphers::specs::gcm#Fits), [`joined`](crate::specs::pieces#joined),
+    /// [`zero_block`](aead_ciphers_base::specs::bytes#zero_block), [`HasSealed`](crate::specs::pieces#HasSealed).
     ///
     /// </details>
     #[inline(always)]
@@ -178,11 +184,13 @@ impl SealState {
     /// requires subkey { G.hash_subkey gcm.now ≡ A.cipher aes.now zero_block }
     /// requires fits { Fits self.old.aad_len self.old.len }
     /// ensures accepted { IsOk result ↔ Fits self.old.aad_len (self.old.len + length in_out.old) }
-    /// ensures sealed { OnOk result (SealsPiece (A.cipher aes.now) self.old in_out.old in_out.new self.new) }
+    /// ensures sealed { OnOk result
+    ///     (SealsPiece (A.cipher aes.now) self.old in_out.old in_out.new self.new) }
     /// ensures refused { OnErr result ((self.new ≡ self.old) × (in_out.new ≡ in_out.old)) }
     /// ```
     ///
-    /// Definitions: [`zero_block`](aead_ciphers_base::specs::bytes#zero_block), [`Fits`](aead_ciphers::specs::gcm#Fits), [`SealsPiece`](crate::specs::pieces#SealsPiece).
+    /// Definitions: [`zero_block`](aead_ciphers_base::specs::bytes#zero_block),
+    /// [`Fits`](aead_ciphers::specs::gcm#Fits), [`SealsPiece`](crate::specs::pieces#SealsPiece).
     ///
     /// </details>
     #[inline(always)]
@@ -211,10 +219,14 @@ impl SealState {
     /// ```text
     /// requires subkey { G.hash_subkey gcm.now ≡ A.cipher aes.now zero_block }
     /// requires fits { Fits self.aad_len self.len }
-    /// ensures { (nonce aad message ciphertext : List ℕ) → HasSealed (A.cipher aes.now) nonce aad message ciphertext self → result ≡ gcm_tag (A.cipher aes.now) nonce aad ciphertext }
+    /// ensures { (nonce aad message ciphertext : List ℕ)
+    ///     → HasSealed (A.cipher aes.now) nonce aad message ciphertext self
+    ///     → result ≡ gcm_tag (A.cipher aes.now) nonce aad ciphertext }
     /// ```
     ///
-    /// Definitions: [`zero_block`](aead_ciphers_base::specs::bytes#zero_block), [`Fits`](aead_ciphers::specs::gcm#Fits), [`HasSealed`](crate::specs::pieces#HasSealed), [`gcm_tag`](aead_ciphers::specs::gcm#gcm_tag).
+    /// Definitions: [`zero_block`](aead_ciphers_base::specs::bytes#zero_block),
+    /// [`Fits`](aead_ciphers::specs::gcm#Fits), [`HasSealed`](crate::specs::pieces#HasSealed),
+    /// [`gcm_tag`](aead_ciphers::specs::gcm#gcm_tag).
     ///
     /// </details>
     #[inline(always)]
@@ -226,6 +238,10 @@ impl SealState {
     }
 
     /// Seals a piece that ends in the batch of its first byte.
+    // requires subkey { G.hash_subkey gcm.now ≡ A.cipher aes.now zero_block }
+    // requires room { self.old.len % BATCH_LEN + length in_out.old ≤ BATCH_LEN }
+    // requires len { self.old.len + length in_out.old ≤ 2 ^ 36 - 32 }
+    // ensures { SealsPiece (A.cipher aes.now) self.old in_out.old in_out.new self.new }
     #[inline(always)]
     fn seal_in_batch<A: EncryptCtr32, G: UpdateBlocks>(
         &mut self,
@@ -245,6 +261,10 @@ impl SealState {
     }
 
     /// Returns the batch of the next byte. At the start of a batch, it is new keystream.
+    // requires { self.now.len ≤ 2 ^ 36 - 32 }
+    // ensures made { self.now.len % BATCH_LEN ≡ 0
+    //     → result ≡ keystream (A.cipher aes.now) self.now.nonce self.now.len }
+    // ensures kept { 0 < self.now.len % BATCH_LEN → result ≡ self.now.batch }
     #[inline(always)]
     fn next_batch<A: EncryptCtr32>(&self, aes: &A) -> [u8; BATCH_LEN] {
         if self.len % BATCH_LEN != 0 {
@@ -275,6 +295,8 @@ struct PartialHash {
 }
 
 impl PartialHash {
+    // ensures taken { (h : List ℕ) → HasTaken h [] result }
+    // ensures none { (result.len ≡ 0) × (result.total ≡ 0) }
     #[inline(always)]
     fn new() -> Self {
         PartialHash {
@@ -286,6 +308,11 @@ impl PartialHash {
     }
 
     /// Hashes the next part.
+    // requires { self.old.len < BATCH_LEN }
+    // ensures short { self.new.len < BATCH_LEN }
+    // ensures taken { (bytes : List ℕ) → HasTaken (G.hash_subkey gcm.now) bytes self.old
+    //     → HasTaken (G.hash_subkey gcm.now) (bytes ++ part.now) self.new }
+    // ensures total { self.new.total ≡ min (self.old.total + length part.now) (2 ^ 64 - 1) }
     #[inline(always)]
     fn update<G: UpdateBlocks>(&mut self, gcm: &G, part: &[u8]) {
         self.total = self.total.saturating_add(part.len());
@@ -298,6 +325,12 @@ impl PartialHash {
     }
 
     /// Hashes bytes that end in the batch of their first byte.
+    // requires short { self.old.len < BATCH_LEN }
+    // requires room { self.old.len + length bytes.now ≤ BATCH_LEN }
+    // ensures len { self.new.len ≡ (self.old.len + length bytes.now) % BATCH_LEN }
+    // ensures taken { (before : List ℕ) → HasTaken (G.hash_subkey gcm.now) before self.old
+    //     → HasTaken (G.hash_subkey gcm.now) (before ++ bytes.now) self.new }
+    // ensures total { self.new.total ≡ self.old.total }
     #[inline(always)]
     fn update_within_batch<G: UpdateBlocks>(&mut self, gcm: &G, bytes: &[u8]) {
         let end = self.len + bytes.len();
@@ -309,6 +342,9 @@ impl PartialHash {
     }
 
     /// Returns the hash of all parts, whose last block is padded with zeros.
+    // requires { self.now.len < BATCH_LEN }
+    // ensures { (bytes : List ℕ) → HasTaken (G.hash_subkey gcm.now) bytes self.now
+    //     → IsHashOf (G.hash_subkey gcm.now) (padded_blocks bytes) result }
     #[inline(always)]
     fn finish<G: UpdateBlocks>(&self, gcm: &G) -> Block {
         absorb(gcm, self.xi, &self.batch[..self.len])
@@ -316,6 +352,8 @@ impl PartialHash {
 }
 
 /// Returns the hash `xi` updated with the blocks of `input`, the last of which is padded with zeros.
+// ensures { (done : List (List ℕ)) → IsHashOf (G.hash_subkey gcm.now) done xi
+//     → IsHashOf (G.hash_subkey gcm.now) (done ++ padded_blocks input.now) result }
 #[inline(always)]
 fn absorb<G: UpdateBlocks>(gcm: &G, xi: Block, input: &[u8]) -> Block {
     let mut hash = Xi::zero();

@@ -35,6 +35,8 @@ use simd::u8x16;
 const R: u128 = 0xe1 << 120;
 
 /// Returns the product of `block` and the block whose products are in `table`.
+// requires { AreProducts (subkey table.now) table.now }
+// ensures { result ≡ block • subkey table.now }
 #[inline(always)]
 pub(crate) fn product<V: simd::Level>(table: &[u8; 512], block: u8x16<V>) -> u8x16<V> {
     let (high, low) = digits(block);
@@ -54,6 +56,8 @@ pub(crate) fn product<V: simd::Level>(table: &[u8; 512], block: u8x16<V>) -> u8x
 /// sum of `first` times H^2, whose products are in `squares`, and `second` times H: the two share the moves and the
 /// reduction. The rows with even and those with odd numbers are added up apart, each sum moved by two places for a row, so that
 /// neither waits for the other.
+// requires { ArePowers table.now squares.now }
+// ensures { result ≡ (first • subkey table.now ⊕ second) • subkey table.now }
 #[inline(always)]
 pub(crate) fn ghash_pair<V: simd::Level>(
     table: &[u8; 512],
@@ -89,6 +93,10 @@ pub(crate) fn ghash_pair<V: simd::Level>(
 
 /// Returns for each of the 16 rows of each half of `table` what `looked_up` returns. The last row is looked up first, as
 /// `ghash_pair` looks up those of the other table: then more of the loads are of two vectors at once.
+// requires high { (i : ℕ) → i < 16 → slice_index high i < 16 }
+// requires low { (i : ℕ) → i < 16 → slice_index low i < 16 }
+// ensures { (r : ℕ) → r < 16 → slice_index_or result r [] ≡ each_below 16 (λ i. bit_xor
+//     (slice_index table.now (16 * r + slice_index high i)) (slice_index table.now (256 + 16 * r + slice_index low i))) }
 #[inline(always)]
 fn looked_up_rows<V: simd::Level>(
     table: &[u8; 512],
@@ -105,6 +113,11 @@ fn looked_up_rows<V: simd::Level>(
 
 /// Looks up the places `high` in the row of `table` from index `at` on, and `low` in the row from `256 + at` on, and returns the
 /// sums of the bytes that it finds.
+// requires at { at + 272 ≤ 512 }
+// requires high { (i : ℕ) → i < 16 → slice_index high i < 16 }
+// requires low { (i : ℕ) → i < 16 → slice_index low i < 16 }
+// ensures { (i : ℕ) → i < 16 → slice_index result i
+//     ≡ bit_xor (slice_index table.now (at + slice_index high i)) (slice_index table.now (256 + at + slice_index low i)) }
 #[inline(always)]
 fn looked_up<V: simd::Level>(
     table: &[u8; 512],
@@ -119,24 +132,31 @@ fn looked_up<V: simd::Level>(
 }
 
 /// Returns the high and the low digit of each byte, in base 16.
+// ensures high { (i : ℕ) → i < 16 → slice_index result.0 i ≡ slice_index bytes i / 16 }
+// ensures low { (i : ℕ) → i < 16 → slice_index result.1 i ≡ slice_index bytes i % 16 }
 #[inline(always)]
 fn digits<V: simd::Level>(bytes: u8x16<V>) -> (u8x16<V>, u8x16<V>) {
     (bytes >> u8x16::<V>::splat(4), bytes & u8x16::<V>::splat(15))
 }
 
 /// Returns the 16 bytes of `table` from index `at` on.
+// requires { at + 16 ≤ 512 }
+// ensures { (n : ℕ) → n < 16 → slice_index result n ≡ slice_index table.now (at + n) }
 #[inline(always)]
 fn table_row<V: simd::Level>(table: &[u8; 512], at: usize) -> u8x16<V> {
     u8x16::<V>::from_slice(&table[at..])
 }
 
 /// Adds the bytes.
+// ensures { result ≡ a ⊕ b }
 #[inline(always)]
 pub(crate) fn add<V: simd::Level>(a: u8x16<V>, b: u8x16<V>) -> u8x16<V> {
     a ^ b
 }
 
 /// Moves 32 bytes by one place. The last is lost.
+// ensures first { result.0 ≡ 0 ∷ each_below 15 (λ i. slice_index first i) }
+// ensures second { result.1 ≡ slice_index first 15 ∷ each_below 15 (λ i. slice_index second i) }
 #[inline(always)]
 fn moved_by_one<V: simd::Level>(first: u8x16<V>, second: u8x16<V>) -> (u8x16<V>, u8x16<V>) {
     (
@@ -160,6 +180,9 @@ fn moved_by_one<V: simd::Level>(first: u8x16<V>, second: u8x16<V>) -> (u8x16<V>,
 }
 
 /// Moves 32 bytes by two places. The last two are lost.
+// ensures first { result.0 ≡ 0 ∷ 0 ∷ each_below 14 (λ i. slice_index first i) }
+// ensures second { result.1
+//     ≡ slice_index first 14 ∷ slice_index first 15 ∷ each_below 14 (λ i. slice_index second i) }
 #[inline(always)]
 fn moved_by_two<V: simd::Level>(first: u8x16<V>, second: u8x16<V>) -> (u8x16<V>, u8x16<V>) {
     (
@@ -184,6 +207,8 @@ fn moved_by_two<V: simd::Level>(first: u8x16<V>, second: u8x16<V>) -> (u8x16<V>,
 
 /// Returns the sum of `first` and u^128 times `second`, that is, its sum with u^0, u, u^2 and u^7 times `second`, of which the
 /// last byte is 0.
+// requires { slice_index second 15 ≡ 0 }
+// ensures { result ≡ first ⊕ u128_times second }
 #[inline(always)]
 fn reduced<V: simd::Level>(first: u8x16<V>, second: u8x16<V>) -> u8x16<V> {
     let (before, _) = moved_by_one(second, u8x16::<V>::splat(0));
@@ -192,6 +217,7 @@ fn reduced<V: simd::Level>(first: u8x16<V>, second: u8x16<V>) -> u8x16<V> {
 
 /// Returns the sum of each byte and of its shifts to the right by 1, 2 and 7 bits, into which the lowest bits of the byte at
 /// its place in `before` come from above. Those of the shifts by 1 and 2 bits are added first, and shifted once.
+// ensures { (i : ℕ) → i < 16 → slice_index result i ≡ folded_byte (slice_index before i) (slice_index bytes i) }
 #[inline(always)]
 fn folded<V: simd::Level>(bytes: u8x16<V>, before: u8x16<V>) -> u8x16<V> {
     let doubled = before << u8x16::<V>::splat(1);
@@ -201,6 +227,8 @@ fn folded<V: simd::Level>(bytes: u8x16<V>, before: u8x16<V>) -> u8x16<V> {
 }
 
 /// Writes the products of `block` and each digit of a byte to `table`.
+// ensures products { AreProducts (to_be_bytes w128 block) table.new }
+// ensures subkey { subkey table.new ≡ to_be_bytes w128 block }
 #[inline(always)]
 pub(crate) fn write_products<V: simd::Level>(table: &mut [u8; 512], block: u128) {
     V::outlined(WriteProducts {
@@ -244,12 +272,16 @@ impl<V: simd::Level> simd::Call for WriteProducts<'_, V> {
 }
 
 /// Writes `row` to the 16 bytes of `table` from index `at` on.
+// requires { at + 16 ≤ 512 }
+// ensures { table.new ≡ put_chunk at table.old row }
 #[inline(always)]
 fn write_table_row<V: simd::Level>(table: &mut [u8; 512], at: usize, row: u8x16<V>) {
     row.copy_to_slice(&mut table[at..]);
 }
 
 /// Returns u^0, .., u^7 times `block`, each computed by a shift of the one before.
+// ensures { (k : ℕ) → k < 8
+//     → to_be_bytes w128 (slice_index result k) ≡ monomial_block k • to_be_bytes w128 block }
 #[inline(always)]
 fn multiples(block: u128) -> [u128; 8] {
     let mut multiples = [0; 8];
@@ -262,6 +294,7 @@ fn multiples(block: u128) -> [u128; 8] {
 }
 
 /// Returns the number, in a vector.
+// ensures { result ≡ number }
 #[inline(always)]
 fn word_of<V: simd::Level>(number: u128) -> Word<V> {
     Word::<V>::new(
@@ -272,12 +305,15 @@ fn word_of<V: simd::Level>(number: u128) -> Word<V> {
 
 /// Returns the bytes of `number`, the most significant first. They are exchanged in the number, not in the vector: there
 /// the compiler would move them one by one.
+// ensures { result ≡ to_be_bytes w128 number }
 #[inline(always)]
 fn bytes_of_number<V: simd::Level>(number: u128) -> u8x16<V> {
     word_of::<V>(number.swap_bytes()).bytes()
 }
 
 /// Returns the bytes of each number, the most significant first.
+// ensures { (k : ℕ) → k < 8
+//     → slice_index_or result k [] ≡ to_be_bytes w128 (slice_index numbers k) }
 #[inline(always)]
 fn blocks<V: simd::Level>(numbers: [u128; 8]) -> [u8x16<V>; 8] {
     let [n0, n1, n2, n3, n4, n5, n6, n7] = numbers;
@@ -295,6 +331,10 @@ fn blocks<V: simd::Level>(numbers: [u128; 8]) -> [u8x16<V>; 8] {
 
 /// Writes a half of `table`, from index `at` on: row `r` has byte `r` of the sum of those of the blocks at which a digit has a
 /// one, its highest bit first, for each digit.
+// requires { at + 256 ≤ 512 }
+// ensures written { (r n : ℕ) → r < 16 → n < 16 → slice_index table.new (at + (16 * r + n))
+//     ≡ chosen_sum n 0 (slice_index a r ∷ slice_index b r ∷ slice_index c r ∷ slice_index d r ∷ []) }
+// ensures others { (q : ℕ) → (q < at) ⊎ (at + 256 ≤ q) → slice_index table.new q ≡ slice_index table.old q }
 #[inline(always)]
 fn write_half<V: simd::Level>(
     table: &mut [u8; 512],
@@ -312,6 +352,8 @@ fn write_half<V: simd::Level>(
 
 /// Returns the rows of a half. A sum of four blocks is that of a sum of the first two, which the two higher bits of the digit
 /// choose, and of a sum of the others.
+// ensures { (r : ℕ) → r < 16 → slice_index_or result r []
+//     ≡ each_below 16 (λ n. chosen_sum n 0 (slice_index a r ∷ slice_index b r ∷ slice_index c r ∷ slice_index d r ∷ [])) }
 #[inline(always)]
 fn rows<V: simd::Level>(a: u8x16<V>, b: u8x16<V>, c: u8x16<V>, d: u8x16<V>) -> [u8x16<V>; 16] {
     let [high0, high1, high2, high3] = sums_of_two(a, b);
@@ -326,6 +368,8 @@ fn rows<V: simd::Level>(a: u8x16<V>, b: u8x16<V>, c: u8x16<V>, d: u8x16<V>) -> [
 }
 
 /// Returns the bytes of zeros, of `b`, of `a` and of their sum at each place in turn, four places in each vector.
+// ensures { (k i : ℕ) → k < 4 → i < 16 → slice_index (slice_index_or result k []) i
+//     ≡ chosen_of_two (i % 4) (slice_index a (4 * k + i / 4)) (slice_index b (4 * k + i / 4)) }
 #[inline(always)]
 fn sums_of_two<V: simd::Level>(a: u8x16<V>, b: u8x16<V>) -> [u8x16<V>; 4] {
     let (low_front, low_back) = interleaved(u8x16::<V>::splat(0), b);
@@ -336,6 +380,8 @@ fn sums_of_two<V: simd::Level>(a: u8x16<V>, b: u8x16<V>) -> [u8x16<V>; 4] {
 }
 
 /// Returns the bytes of two vectors in turn: those of their first halves, and those of their second halves.
+// ensures front { (i : ℕ) → i < 16 → slice_index result.0 i ≡ slice_index (if i % 2 == 0 then a else b) (i / 2) }
+// ensures back { (i : ℕ) → i < 16 → slice_index result.1 i ≡ slice_index (if i % 2 == 0 then a else b) (8 + i / 2) }
 #[inline(always)]
 fn interleaved<V: simd::Level>(a: u8x16<V>, b: u8x16<V>) -> (u8x16<V>, u8x16<V>) {
     (
@@ -346,6 +392,10 @@ fn interleaved<V: simd::Level>(a: u8x16<V>, b: u8x16<V>) -> (u8x16<V>, u8x16<V>)
 }
 
 /// Does the same as `interleaved`, with two bytes of each in turn.
+// ensures front { (i : ℕ) → i < 16
+//     → slice_index result.0 i ≡ slice_index (if i / 2 % 2 == 0 then a else b) (2 * (i / 4) + i % 2) }
+// ensures back { (i : ℕ) → i < 16
+//     → slice_index result.1 i ≡ slice_index (if i / 2 % 2 == 0 then a else b) (8 + (2 * (i / 4) + i % 2)) }
 #[inline(always)]
 fn interleaved_in_pairs<V: simd::Level>(a: u8x16<V>, b: u8x16<V>) -> (u8x16<V>, u8x16<V>) {
     (
@@ -357,6 +407,8 @@ fn interleaved_in_pairs<V: simd::Level>(a: u8x16<V>, b: u8x16<V>) -> (u8x16<V>, 
 
 /// Returns four rows, each of the sums of a byte of `high` and a byte of `low`, of which each row has four: digit `n` has that of
 /// `high` at its two higher bits, and that of `low` at its two lower.
+// ensures { (j : ℕ) → j < 4 → slice_index_or result j []
+//     ≡ each_below 16 (λ n. bit_xor (slice_index high (4 * j + n / 4)) (slice_index low (4 * j + n % 4))) }
 #[inline(always)]
 fn four_rows<V: simd::Level>(high: u8x16<V>, low: u8x16<V>) -> [u8x16<V>; 4] {
     [

@@ -4,12 +4,20 @@
 use super::AsChunks;
 
 /// Splits a slice after the first `count` blocks of `N` items.
+// requires { count * N ≤ length items.old }
+// ensures front { result.0.now ≡ take (count * N) items.old }
+// ensures back { result.1.now ≡ drop (count * N) items.old }
+// ensures* writes_back { sem 𝓛 (LendsInTwo T.row items.entry result) }
 #[inline(always)]
 fn split_after_blocks<T, const N: usize>(items: &mut [T], count: usize) -> (&mut [T], &mut [T]) {
     items.split_at_mut(count * N)
 }
 
 /// Splits a slice after as many whole blocks of `N` items as fit.
+// requires { 0 < N }
+// ensures whole { result.0.now ≡ take (length items.old / N * N) items.old }
+// ensures rest { result.1.now ≡ drop (length items.old / N * N) items.old }
+// ensures* writes_back { sem 𝓛 (LendsInTwo T.row items.entry result) }
 #[inline(always)]
 fn split_after_whole_blocks<T, const N: usize>(items: &mut [T]) -> (&mut [T], &mut [T]) {
     let count = items.len() / N;
@@ -38,14 +46,14 @@ fn split_after_whole_blocks<T, const N: usize>(items: &mut [T]) -> (&mut [T], &m
 ///
 /// ```text
 /// requires { 0 < N }
-/// ensures* writes_back { sem 𝓛 (LendsInTwo T.row items.entry (result.0.items, result.1)) }
 /// ensures view { blocks N result.0.items.now ≡ blocks N items.old }
 /// ensures whole { result.0.items.now ≡ take (length items.old / N * N) items.old }
 /// ensures rest { result.1.now ≡ drop (length items.old / N * N) items.old }
 /// ensures short { length result.1.now < N }
+/// ensures* writes_back { sem 𝓛 (LendsInTwo T.row items.entry (result.0.items, result.1)) }
 /// ```
 ///
-/// Definitions: [`LendsInTwo`](crate::specs::chunks_mut#LendsInTwo), [`blocks`](crate::specs::blocks#blocks).
+/// Definitions: [`blocks`](crate::specs::blocks#blocks), [`LendsInTwo`](crate::specs::chunks_mut#LendsInTwo).
 ///
 /// </details>
 #[inline(always)]
@@ -91,8 +99,8 @@ impl<'a, T, const N: usize> AsChunksMut<'a, T, N> {
     /// <details><summary>Contract</summary>
     ///
     /// ```text
-    /// ensures* writes_back { sem 𝓛 (LendsItems T.row N.row self.entry result) }
     /// ensures items { result.now ≡ self.old.items.now }
+    /// ensures* writes_back { sem 𝓛 (LendsItems T.row N.row self.entry result) }
     /// ```
     ///
     /// Definitions: [`LendsItems`](crate::specs::as_chunks_mut#LendsItems).
@@ -108,8 +116,8 @@ impl<'a, T, const N: usize> AsChunksMut<'a, T, N> {
     /// <details><summary>Contract</summary>
     ///
     /// ```text
-    /// ensures* writes_back { sem 𝓛 (LendsItems T.row N.row self.entry result.items) }
     /// ensures items { result.items.now ≡ self.old.items.now }
+    /// ensures* writes_back { sem 𝓛 (LendsItems T.row N.row self.entry result.items) }
     /// ```
     ///
     /// Definitions: [`LendsItems`](crate::specs::as_chunks_mut#LendsItems).
@@ -142,11 +150,11 @@ impl<'a, T, const N: usize> AsChunksMut<'a, T, N> {
     ///
     /// ```text
     /// requires { mid ≤ length (blocks N self.old.items.now) }
-    /// ensures* writes_back { sem 𝓛 (LendsParts T.row N.row self.entry result.0.items result.1.items) }
     /// ensures before { blocks N result.0.items.now ≡ take mid (blocks N self.old.items.now) }
     /// ensures after { blocks N result.1.items.now ≡ drop mid (blocks N self.old.items.now) }
     /// ensures front { result.0.items.now ≡ take (mid * N) self.old.items.now }
     /// ensures back { result.1.items.now ≡ drop (mid * N) self.old.items.now }
+    /// ensures* writes_back { sem 𝓛 (LendsParts T.row N.row self.entry result.0.items result.1.items) }
     /// ```
     ///
     /// Definitions: [`blocks`](crate::specs::blocks#blocks), [`LendsParts`](crate::specs::as_chunks_mut#LendsParts).
@@ -165,9 +173,9 @@ impl<'a, T, const N: usize> AsChunksMut<'a, T, N> {
     /// ```text
     /// requires some { 0 < CHUNK_LEN }
     /// requires fits { CHUNK_LEN * N < 2 ^ 64 }
-    /// ensures* kept { sem 𝓛 (KeepsCount T.row N.row self.entry) }
     /// ensures rest { chunks_mut_rest result.chunks ≡ self.old.items.now }
     /// ensures size { 0 < N → chunks_mut_size result.chunks ≡ CHUNK_LEN * N }
+    /// ensures* kept { sem 𝓛 (KeepsCount T.row N.row self.entry) }
     /// ```
     ///
     /// Definitions: [`KeepsCount`](crate::specs::as_chunks_mut#KeepsCount).
@@ -180,6 +188,11 @@ impl<'a, T, const N: usize> AsChunksMut<'a, T, N> {
 }
 
 /// Returns an iterator over views of `CHUNK_LEN` blocks each of a slice of whole blocks, in order.
+// requires some { 0 < CHUNK_LEN }
+// requires fits { CHUNK_LEN * N < 2 ^ 64 }
+// requires whole { length items.old % N ≡ 0 }
+// ensures rest { chunks_mut_rest result.chunks ≡ items.old }
+// ensures size { 0 < N → chunks_mut_size result.chunks ≡ CHUNK_LEN * N }
 #[inline(always)]
 fn chunks_of_blocks<T, const N: usize, const CHUNK_LEN: usize>(
     items: &mut [T],
