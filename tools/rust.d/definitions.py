@@ -1,27 +1,55 @@
-"""The definitions that contracts cite: their pages, which rust/CRATE/src/specs has, and the links from contracts to them."""
+"""The definitions that contracts cite: their pages, which rust/CRATE/src/specs has, the links to them, and the words of Rattle's
+standard library that the pages use."""
 
 import re
+import textwrap
 import typing
 
 import lists
-from tokens import Fault, is_at, next_of
+from tokens import TRIVIA, Fault, is_at, made, next_of
+from words import FIRST, WORDS
 
-IMPORT = re.compile(r"Rattle\.(\w+)\.specs\.(\w+)\.\{([^}]*)\}")
+IMPORT = re.compile(r"\buse ([\w.]+)(?:\.\{([^}]*)\}| as (\w+))")
+# A file of definitions. The module `declared` has the types of a crate, which mean themselves.
+FILE = re.compile(r"Rattle\.(\w+)\.specs\.(\w+)")
+DECLARED = re.compile(r"Rattle\.\w+\.specs\.declared\.")
 # The line that begins a definition. A line `pub NAME :` below the head of a record is a field.
 DEFINED = re.compile(r" *(?:(?:abbrev|unfoldable) pub|pub (?:record|data)|pub) (\S+)")
+# The left side of an equation.
+EQUATION = re.compile(r"^ *(\S.*?) =(?: |$)", re.MULTILINE)
 PLACE = "◌"
 # The length of a line, without what stands before it in an indented comment.
 LINE = 110
 
 # The page above those of the files.
-ROOT = """//! The definitions that the contracts of this crate cite, from the files of `crates/{crate}/specs`.
+ROOT = """//! The definitions that contracts of this crate cite, from the files of `crates/{crate}/specs` of the repository.
 //!
-//! A definition is its type and then its equations, of which the first that fits the arguments counts. `f x y` is f of x and y,
-//! and `λ x. e` is the function whose value at x is e. A fact has the type `Type 0`: a `record` of facts holds if each of them
-//! does, and a `data` if one of its cases does. `◌` is the place of an operator's argument. `docs/BELIEVE.md` of the repository
-//! explains all words, under *Words of the clauses*.
-
+//! A definition is its type and then its equations, of which the first that fits the arguments counts. `A → B` is the type of
+//! the functions from A to B. A struct or an enum is that of the same name in the crate.
+//!
+//! - A fact has the type `Type 0`. A `record` of facts holds if each of its fields does, and a `data` if one of its cases does.
+//!   A case is a line `name : P → Q → D ..`, and holds if P and Q do. If it begins with `(x : A) →`, it holds if they do for
+//!   some x.
+//! - Each definition below the line `module _ (x : A) where` takes x as its first argument. Inside the module, this argument
+//!   isn't written. A contract writes it first: `Opened (aes key) nonce aad` begins with the arguments of the module.
+//! - An argument in braces, such as `{E : Type 0}`, isn't written where the definition is used.
+//! - `(a, b)` is a pair, and `p.0` and `p.1` are its parts. Where A and B aren't facts, `A × B` is the type of such pairs.
+//! - `◌` is the place of an operator's argument, and `infixl 40` says how tightly the operator binds. `abbrev` and `unfoldable`
+//!   matter to proofs alone, and so does what comes after `=` if the type of the definition is a fact.
+//!
+//! # Words
+//!
+//! The [first page](crate#contracts) explains the words that are in most contracts. These are the others of Rattle's standard
+//! library that the pages of this crate use:
+//!
 """
+
+
+class File(typing.NamedTuple):
+    """A file of definitions, which an import gives a name."""
+
+    crate: str
+    file: str
 
 
 class Definition(typing.NamedTuple):
@@ -32,15 +60,24 @@ class Definition(typing.NamedTuple):
     name: str
 
     def link(self, word, crate):
-        """Returns a word of a contract of a crate as a link to the definition."""
-        return f"[`{word.strip(PLACE)}`]({page_path(self.crate, self.file, crate)}#{self.name.strip(PLACE)})"
+        """Returns a word of a contract of a crate as a link to the definition, with the name that the definition has there."""
+        word, name = word.strip(PLACE), self.name.strip(PLACE)
+        shown = f"`{word}`" if word == name else f"`{word}` (`{name}`)"
+        return f"[{shown}]({page_path(self.crate, self.file, crate)}#{name})"
+
+
+class Word(typing.NamedTuple):
+    """A word of Rattle's standard library."""
+
+    name: str
 
 
 class Page(typing.NamedTuple):
-    """A file of definitions: its first comment, the files that it imports, and its paragraphs with the names that each defines."""
+    """A file of definitions: its first comment, what the names mean that it imports, and its paragraphs, each with the names that it
+    defines."""
 
     comment: list
-    imports: set
+    imports: dict
     paragraphs: list
 
 
@@ -54,24 +91,41 @@ def module_of(file):
 
 
 def imported(text):
-    """Yields the names that imports make, each with its definition, of the files of these crates."""
-    for crate, file, names in IMPORT.findall(text):
-        if crate in lists.CRATES:
-            for name in names.split(","):
-                name, _, other = name.strip().partition(" as ")
-                yield other or name, Definition(crate, file, name)
+    """Yields the names that imports make, each with what it means. Types of the crates mean themselves."""
+    for path, names, alias in IMPORT.findall(text):
+        match = FILE.fullmatch(path)
+        file = File(*match.groups()) if match and match[1] in lists.CRATES else None
+        if alias and file:
+            yield alias, file
+        if DECLARED.match(path):
+            continue
+        for name in names.split(",") if names else []:
+            name, _, other = name.strip().partition(" as ")
+            yield other or name, Definition(*file, name) if file else Word(name)
 
 
-def cited(tokens, names):
-    """Returns the names of imports that a clause or a ghost item uses between its braces, in order."""
-    start = next(at for at, token in enumerate(tokens) if token.text == "{")
-    names = names - set(bound(tokens))
-    words = [(at, PLACE + token.text + PLACE if token.kind == "mark" else token.text) for at, token in enumerate(tokens)]
-    return [word for at, word in words if at > start and word in names and tokens[at - 1].text != "."]
+def cited(tokens, imports):
+    """Returns the names of imports that logic uses, in order, each with what it means."""
+    names = imports.keys() - set(bound(tokens))
+    found = []
+    for at, token in enumerate(tokens):
+        word = next((word for word in (token.text, PLACE + token.text + PLACE) if word in names), None)
+        if word is None or tokens[at - 1].text == ".":
+            continue
+        if isinstance(imports[word], File):
+            found.append((tokens[at + 2].text, Definition(*imports[word], tokens[at + 2].text)))
+        else:
+            found.append((word, imports[word]))
+    return found
+
+
+def between_braces(tokens):
+    """Returns the logic of a clause or of a ghost item."""
+    return tokens[next(at for at, token in enumerate(tokens) if token.text == "{") :]
 
 
 def bound(tokens):
-    """Yields the names that a clause binds: those between `λ` and its dot, and what stands before `=`, as in `let NAME = ..` and
+    """Yields the names that logic binds: those between `λ` and its dot, and what stands before `=`, as in `let NAME = ..` and
     in `record { NAME = .. }`."""
     in_head = False
     for at, token in enumerate(tokens):
@@ -79,6 +133,18 @@ def bound(tokens):
         after = next_of(tokens, at + 1)
         if token.kind == "word" and (in_head or is_at(tokens, after, "=") and not is_at(tokens, after, "=", "=")):
             yield token.text
+
+
+def bound_in_types(tokens):
+    """Yields the names before a colon: the arguments of `(NAME NAME : A)` and of `{NAME : A}`, and the field of `NAME : A`."""
+    words = [token for token in tokens if token.kind not in TRIVIA]
+    for at, token in enumerate(words):
+        if token.text == ":":
+            start = at
+            while start and words[start - 1].kind == "word":
+                start -= 1
+            are_arguments = start and words[start - 1].text in "({"
+            yield from (word.text for word in words[start if are_arguments else at - 1 : at])
 
 
 def names_in(paragraph):
@@ -92,12 +158,43 @@ def names_in(paragraph):
     return names
 
 
+def arguments_in(paragraph, names):
+    """Returns the names of the arguments in the equations of a paragraph."""
+    heads = [match[1] for match in EQUATION.finditer(paragraph) if match[1].startswith(tuple(names))]
+    return {token.text for head in heads for token in made(head) if token.kind == "word"}
+
+
+def module_heads(lines):
+    """Yields the lines `module .. where` of a paragraph, each with the lines that continue it."""
+    at = 0
+    while at < len(lines):
+        end = at + 1
+        if lines[at].lstrip().startswith("module "):
+            while not lines[end - 1].endswith(" where"):
+                end += 1
+            yield lines[at:end]
+        at = end
+
+
+def depth(line):
+    return len(line) - len(line.lstrip())
+
+
+def in_modules(paragraphs):
+    """Yields the paragraphs, each below the heads of the modules that it is in."""
+    heads = []
+    for paragraph in paragraphs:
+        lines = paragraph.split("\n")
+        heads = [head for head in heads if depth(head[0]) < depth(lines[0])]
+        yield "\n".join([*(line for head in heads for line in head), *lines])
+        heads += module_heads(lines)
+
+
 def page_of(text):
     """Returns a file of definitions as a page."""
     head, *paragraphs = text.strip("\n").split("\n\n")
     comment = [line.removeprefix("-- ") for line in head.split("\n") if line.startswith("--")]
-    imports = {(definition.crate, definition.file) for _, definition in imported(head)}
-    return Page(comment, imports, [(names_in(paragraph), paragraph) for paragraph in paragraphs])
+    return Page(comment, dict(imported(head)), [(names_in(paragraph), paragraph) for paragraph in in_modules(paragraphs)])
 
 
 def in_lines(links):
@@ -112,11 +209,20 @@ def in_lines(links):
     return [*lines[:-1], lines[-1] + "."]
 
 
+def in_bullet(text):
+    """Returns the lines of an item of a list. Code stays on one line."""
+    text = re.sub(r"`[^`]*`", lambda match: match[0].replace(" ", "\0"), f"- {text}")
+    lines = textwrap.wrap(text, LINE, subsequent_indent="  ", break_long_words=False, break_on_hyphens=False)
+    return [line.replace("\0", " ") for line in lines]
+
+
 class Pages:
     """The files of definitions, and which of them contracts cite."""
 
     def __init__(self, top):
         self.top, self.pages, self.wanted = top, {}, set()
+        # The words of the standard library that the pages of each crate use.
+        self.words = {crate: set() for crate in lists.CRATES}
 
     def page(self, crate, file):
         """Returns the page of a file, which is read once."""
@@ -128,7 +234,9 @@ class Pages:
         return self.pages[crate, file]
 
     def links(self, crate, found):
-        """Returns the lines of a contract that link to the definitions that it cites."""
+        """Returns the lines that link to the definitions among what logic cites, and notes the words of the standard library."""
+        self.words[crate].update(it.name for _, it in found if isinstance(it, Word))
+        found = [(word, it) for word, it in found if isinstance(it, Definition)]
         for _, it in found:
             if not any(it.name in names for names, _ in self.page(it.crate, it.file).paragraphs):
                 raise Fault(f"crates/{it.crate}/specs/{it.file}.antt doesn't define `{it.name}`")
@@ -139,24 +247,50 @@ class Pages:
         """Notes that a file has a page, and so have those that it imports."""
         if (crate, file) not in self.wanted:
             self.wanted.add((crate, file))
-            for other in self.page(crate, file).imports:
-                self.want(*other)
+            for it in self.page(crate, file).imports.values():
+                if isinstance(it, Definition):
+                    self.want(it.crate, it.file)
 
     def written(self, crate):
-        """Yields the sources of a crate that have the pages, each with its name and what it is made of."""
+        """Yields the sources of a crate that have the pages, each with its name and that of the file that it is made of."""
         files = sorted(file for of, file in self.wanted if of == crate)
-        folder = f"crates/{crate}/specs"
-        yield "specs.rs", ROOT.replace("{crate}", crate) + "".join(f"pub mod {module_of(file)};\n" for file in files), folder
-        for file in files:
-            yield f"specs/{module_of(file)}.rs", self.source(crate, file), f"{folder}/{file}.antt"
+        pages = [(f"specs/{module_of(file)}.rs", self.source(crate, file), f"crates/{crate}/specs/{file}.antt") for file in files]
+        modules = "".join(f"pub mod {module_of(file)};\n" for file in files)
+        yield "specs.rs", f"{ROOT.replace('{crate}', crate)}{self.explained(crate)}\n{modules}", f"crates/{crate}/specs"
+        yield from pages
+
+    def explained(self, crate):
+        """Returns the lines of the words of the standard library that the pages of a crate use."""
+        words = self.words[crate] - FIRST
+        for word in words:
+            if not any(word in names for names in WORDS):
+                raise Fault(f"tools/rust.d/words.py doesn't explain `{word}`, which the pages of {crate} use")
+        return "".join(f"//! {line}\n" for names, text in WORDS.items() if words & set(names) for line in in_bullet(text))
+
+    def check_words(self):
+        """Fails if no page uses a word that is explained."""
+        used = set().union(*self.words.values())
+        for word in [*FIRST, *(word for words in WORDS for word in words)]:
+            if word not in used:
+                raise Fault(f"tools/rust.d/words.py: nothing uses `{word}`")
 
     def source(self, crate, file):
         """Returns the source that has the page of a file: its text, with an anchor for each name that it defines."""
         page = self.page(crate, file)
-        uses = ", ".join(f"[`{module_of(other)}`]({page_path(of, other, crate)})" for of, other in sorted(page.imports))
-        path = f"`crates/{crate}/specs/{file}.antt`"
-        lines = [*page.comment, "", f"The definitions of {path}{', which use those of ' + uses if uses else ''}."]
+        own = {name: Definition(crate, file, name) for names, _ in page.paragraphs for name in names}
+        self.words[crate].update(it.name for it in page.imports.values() if isinstance(it, Word))
+        lines = [*page.comment, "", f"The definitions of `crates/{crate}/specs/{file}.antt` of the repository."]
         for names, paragraph in page.paragraphs:
-            lines += ["", *(f'<div id="{name.strip(PLACE)}"></div>' for name in names)]
+            if names:
+                lines += ["", *(f'<div id="{name.strip(PLACE)}"></div>' for name in names)]
             lines += ["", "```text", *paragraph.split("\n"), "```"]
+            links = self.links(crate, uses(names, paragraph, page.imports | own))
+            lines += ["", *links] if links else []
         return "".join(f"//! {line}".rstrip() + "\n" for line in lines)
+
+
+def uses(names, paragraph, imports):
+    """Returns the definitions that a paragraph uses, each with its name."""
+    logic = made("\n".join(line.partition("-- ")[0] for line in paragraph.split("\n")))
+    hidden = {*names, *bound_in_types(logic), *arguments_in(paragraph, names)}
+    return dict(cited(logic, {name: it for name, it in imports.items() if name not in hidden})).items()

@@ -8,7 +8,8 @@ import contracts
 import definitions
 import lists
 from items import CLAUSES, clause_end, function, items, text_of_function
-from tokens import OPEN, TRIVIA, Fault, group_end, last_of, made, next_of, parts, text_of, tokens, words_of
+from levels import owner_of
+from tokens import OPEN, TRIVIA, Fault, group_end, is_at, last_of, made, next_of, parts, text_of, tokens, words_of
 
 
 class Source:
@@ -88,15 +89,14 @@ def where_bounds(source, tokens):
     return made(f"where {','.join(kept)}", tokens[0].line) if kept else []
 
 
-def fields(source, body):
+def is_ghost_field(part):
+    words = [token.text for token in part if token.kind == "word"]
+    return words[:1] == ["ghost"] or words[:2] == ["pub", "ghost"]
+
+
+def fields(body):
     """Returns the fields of a struct without those that are ghosts."""
-    kept = []
-    for part in parts(body[1:-1]):
-        words = [token.text for token in part if token.kind == "word"]
-        if words[:1] == ["ghost"] or words[:2] == ["pub", "ghost"]:
-            source.count("ghost field")
-        else:
-            kept.append(text_of(part))
+    kept = [text_of(part) for part in parts(body[1:-1]) if not is_ghost_field(part)]
     return made("{" + ",".join(kept) + ("," if kept else "") + "\n}", body[0].line)
 
 
@@ -266,18 +266,48 @@ def before_item(text, added):
     return "".join([*lines[:at], added + "\n", *lines[at:]])
 
 
-class Writer:
-    """Writes the items of a source as Rust."""
+def inside(item):
+    """Returns the items of a block."""
+    return items(item.tokens[item.body_start() + 1 : -1])[0]
 
-    def __init__(self, source, leveler, pages):
-        self.source, self.leveler, self.pages = source, leveler, pages
-        # The imports of definitions of the file and of the block.
+
+def is_model(item):
+    return item.kind == "impl" and "Model" in words_of(item.tokens[: item.body_start()])
+
+
+def is_law(item):
+    """Returns whether a ghost item of a trait is a fact, of which each `impl` gives a proof: its type names its arguments."""
+    return is_at(definitions.between_braces(item.tokens), 1, "(")
+
+
+def ghosts(found):
+    return [item for item in found if item.kind == "ghost" and item.name != "use"]
+
+
+def ghosts_of_traits(sources):
+    """Returns the names of the ghost items of traits, each with whether it is a law."""
+    traits = [item for source in sources for item in items(source.tokens)[0] if item.kind == "trait"]
+    return {item.name: is_law(item) for trait in traits for item in ghosts(inside(trait))}
+
+
+class Writer:
+    """Writes the items of a source as Rust. `ghosts` are the ghost items of the traits of this crate and of those below it."""
+
+    def __init__(self, source, leveler, pages, ghosts):
+        self.source, self.leveler, self.pages, self.ghosts_of_traits = source, leveler, pages, ghosts
+        # The imports of the file and of the block that give names to definitions.
         self.imports = collections.ChainMap()
+        # The models of the types that are still to come.
+        self.models = {}
 
     def file(self):
         found, rest = items(self.source.tokens)
+        self.models = {owner_of(item.tokens): item for item in found if is_model(item)}
         with self.importing(found):
-            return self.items(found, "file") + text_of(rest)
+            text = self.items(found, "file") + text_of(rest)
+        for name, item in self.models.items():
+            raise self.source.fault(item.line, f"the file of the model of `{name}` doesn't have the type")
+        return text
 
     def items(self, found, place):
         return "".join(self.item(item, place) for item in found)
@@ -294,10 +324,19 @@ class Writer:
 
     def documented(self, lead, title, shown, logic, arguments=()):
         """Returns what is before an item, with lines of logic in the doc comment, and links to the definitions that it cites."""
-        names = self.imports.keys() - set(arguments)
-        cited = dict.fromkeys(name for tokens in logic for name in definitions.cited(tokens, names))
-        links = self.pages.links(self.source.crate, [(name, self.imports[name]) for name in cited])
-        return contracts.documented(lead, title, shown, links)
+        imports = {name: it for name, it in self.imports.items() if name not in arguments}
+        cited = dict(found for tokens in logic for found in definitions.cited(definitions.between_braces(tokens), imports))
+        return contracts.documented(lead, title, shown, self.pages.links(self.source.crate, cited.items()))
+
+    def with_ghosts(self, lead, title, found, is_shown=True):
+        """Returns what is before an item with these ghost items, which contracts cite: in the doc comment, if a page shows the
+        item."""
+        if not found:
+            return lead
+        shown = [line for item in found for line in contracts.ghost_of(item, lists.STD_ITEMS.get(item.name))]
+        if not is_shown:
+            return contracts.commented(lead, [f"{title}:", *shown])
+        return self.documented(lead, title, shown, [item.tokens for item in found])
 
     def is_left_out(self, item):
         key = (self.source.path, head_of(item))
@@ -312,6 +351,7 @@ class Writer:
 
     def item(self, item, place):
         if self.is_left_out(item):
+            self.models.pop(item.name, None)
             return text_of(kept_lead(item.lead))
         text = getattr(self, item.kind)(item, place)
         key = (self.source.path, head_of(item))
@@ -370,11 +410,41 @@ class Writer:
 
     def struct(self, item, place):
         tokens = item.tokens
+        lead = self.with_model(text_of(attributes(self.source, item.lead)), item)
         if tokens[-1].text == "}":
             at = item.body_start()
-            tokens = without_bounds(self.source, tokens[:at]) + fields(self.source, tokens[at:])
+            lead = self.with_invariant(lead, item)
+            tokens = without_bounds(self.source, tokens[:at]) + fields(tokens[at:])
         tokens = self.leveler.struct(self.source, item.name, tokens)
-        return text_of(attributes(self.source, item.lead)) + text_of(self.rewritten(tokens)) + self.wiped(item)
+        return lead + text_of(self.rewritten(tokens)) + self.wiped(item)
+
+    def with_model(self, lead, item):
+        """Returns what is before a type, with the model by which contracts see its values, if it has one."""
+        if item.name not in self.models:
+            return lead
+        found = inside(self.models.pop(item.name))
+        shown = [ghost for ghost in ghosts(found) if not self.is_proof_of_model(ghost)]
+        with self.importing(found):
+            return self.with_ghosts(lead, "Model", shown, item.is_public)
+
+    def is_proof_of_model(self, ghost):
+        if ghost.name in lists.PROOFS_OF_MODEL:
+            self.source.used.add(ghost.name)
+            return True
+        if ghost.name not in lists.SHOWN_OF_MODEL:
+            raise self.source.fault(ghost.line, f"`{ghost.name}` of a model is in no list")
+        return False
+
+    def with_invariant(self, lead, item):
+        """Returns what is before a struct, with what holds of its fields, as its ghost fields say."""
+        found = [part[next_of(part, 0) :] for part in parts(item.tokens[item.body_start() + 1 : -1]) if is_ghost_field(part)]
+        if not found:
+            return lead
+        self.source.counts["ghost field"] += len(found)
+        shown = [line for part in found for line in contracts.lines_of(part, len("    "))]
+        if not item.is_public:
+            return contracts.commented(lead, ["Invariant:", *shown])
+        return self.documented(lead, "Invariant", shown, found)
 
     def wiped(self, item):
         """Returns the `Drop` that overwrites a key, if the type is one of `WIPED`."""
@@ -387,7 +457,7 @@ class Writer:
             body = f"match self {{ {arms} }}"
         else:
             body = " ".join(f"simd::wipe(&mut self.{field});" for field in fields)
-        return f"\n\n/// Overwrites the key with zeros.\nimpl Drop for {item.name} {{ fn drop(&mut self) {{ {body} }} }}"
+        return f"\n\n/// Overwrites the secret fields with zeros.\nimpl Drop for {item.name} {{ fn drop(&mut self) {{ {body} }} }}"
 
     def enum(self, item, place):
         displayed = contracts.displayed(self.source, item)
@@ -398,12 +468,10 @@ class Writer:
         return self.block(item, "trait")
 
     def impl(self, item, place):
-        at = item.body_start()
-        head = [token for token in item.tokens[:at] if token.kind not in TRIVIA]
-        if any(token.text == "Model" for token in head):
+        if is_model(item):
             self.source.count("model")
             return text_of(kept_lead(item.lead))
-        return self.block(item, "trait impl" if any(token.text == "for" for token in head) else "impl")
+        return self.block(item, "trait impl" if "for" in words_of(item.tokens[: item.body_start()]) else "impl")
 
     def block(self, item, place):
         at = item.body_start()
@@ -412,21 +480,25 @@ class Writer:
         lead = text_of(attributes(self.source, item.lead))
         with self.importing(found), self.leveler.block(self.source, head) as leveled:
             body = self.items(found, place)
-            if place == "trait":
-                lead = self.with_ghosts(lead, found)
+            if place in ("trait", "trait impl"):
+                lead = self.with_ghosts(lead, "Ghost items", self.shown_ghosts(found, place))
         key = (self.source.path, head_of(item), "body")
         if key in lists.ADDED:
             self.source.used.add(key)
             body = f"\n{lists.ADDED[key].what}{body}"
         return f"{lead}{text_of(leveled.head)}{{{body}{text_of(rest)}}}{leveled.after}"
 
-    def with_ghosts(self, lead, found):
-        """Returns what is before a trait, with its ghost items, which contracts cite, in the doc comment."""
-        ghosts = [item for item in found if item.kind == "ghost" and item.name != "use"]
-        if not ghosts:
-            return lead
-        shown = [line for item in ghosts for line in contracts.ghost_of(item)]
-        return self.documented(lead, "Ghost items", shown, [item.tokens for item in ghosts])
+    def shown_ghosts(self, found, place):
+        """Returns the ghost items of a trait, or those of an `impl` that aren't proofs."""
+        found = ghosts(found)
+        if place == "trait":
+            return found
+        for item in found:
+            if item.name in lists.STD_ITEMS:
+                self.source.used.add(item.name)
+            elif item.name not in self.ghosts_of_traits:
+                raise self.source.fault(item.line, f"the ghost item `{item.name}` is of no trait that is known")
+        return [item for item in found if not self.ghosts_of_traits.get(item.name)]
 
     def fn(self, item, place):
         it = function(item.tokens)

@@ -31,15 +31,39 @@ CRATES = {
 # What is deleted wherever it stands. The names are those by which the program counts.
 DELETED = {
     "clause": Entry("`requires` and `ensures`", "A contract does nothing at run time. That of a public function goes into its doc comment, and that of another function into a comment."),
-    "ghost item": Entry("`ghost NAME ..`, in files, traits and `impl` blocks", "It is read by the proof alone. Those of a trait go into its doc comment."),
+    "ghost item": Entry("`ghost NAME ..`, in files, traits and `impl` blocks", "Contracts and proofs alone read it. Those of a trait go into its doc comment, and so do those of an `impl` of a trait, but for the proofs of laws."),
     "ghost import": Entry("`ghost use ..`", "It names the definitions of which clauses and ghost items speak. The contracts link to them."),
-    "ghost field": Entry("`ghost NAME: { .. }` in a `struct`", "It states the invariant of the struct."),
+    "ghost field": Entry("`ghost NAME: { .. }` in a `struct`", "It states the invariant of the struct, and goes into its doc comment."),
     "ghost parameter": Entry("`ghost NAME: { .. }` among the clauses of a function", "It has no value at run time."),
     "tactic": Entry("`#[tactic(..)]` and `#![tactic(..)]`", "It tells the prover what to try."),
-    "model": Entry("`impl Model for ..`", "It says which value the contracts see in a type."),
+    "model": Entry("`impl Model for ..`", "It says which value contracts see in a type, and goes into the doc comment of the type, but for `inverse` and `inverse_ok`."),
     "derived Drop": Entry("`Drop` in `#[derive(..)]`", "In Rattle only a type with `Drop` may be let go. In Rust each may."),
     "Drop bound": Entry("`Drop` as a bound", "The same."),
     "law": Entry("a call of a function of `LAWS`", "It does nothing, and its contract is for the proof."),
+}
+
+# The ghost items of an `impl Model` that go into the doc comment of the type, and those that are for proofs alone.
+SHOWN_OF_MODEL = ("Value", "view", "invariant")
+PROOFS_OF_MODEL = {
+    "inverse": "computes the fields from the model",
+    "inverse_ok": "proves that `inverse` does so",
+}
+
+# Ghost items of traits of the standard library, each with what it says. The doc comments of `impl`s have these sentences.
+STD_ITEMS = {
+    "from_gives": "What holds of the argument of `from` and of what it returns.",
+    "try_from_gives": "What holds of the argument of `try_from` and of what it returns.",
+    "is_clone": "What holds of a value and of what `clone` returns for it.",
+    "is_infallible": "For which values `clone` doesn't fail.",
+    "output": "`Some` of what `{}` prints.",
+    "debug_output": "`Some` of what `{:?}` prints.",
+    "bitand_gives": "What holds of the operands of `&` and of the result.",
+    "bitxor_gives": "What holds of the operands of `^` and of the result.",
+    "can_index": "For which values and indices `index` returns.",
+    "index_gives": "What holds of a value, of an index, and of what `index` returns.",
+    "into_iter_gives": "What holds of a value and of the iterator that is made of it.",
+    "next_gives": "What holds of an iterator before a call of `next`, of what this returns, and of the iterator after it.",
+    "remaining": "How many items an iterator returns at most.",
 }
 
 # Functions without a body, whose contracts are laws. Each is left out, and so are its calls.

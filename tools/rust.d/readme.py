@@ -46,6 +46,7 @@ def check_used(found):
     wanted = {*lists.LEFT_OUT_ITEMS, *lists.DROPPED_IMPORTS, *lists.DROPPED_NAMES, *lists.ADDED, *lists.UNDERSCORED, *lists.INLINED_AFTER_ALL, *range(len(lists.REPLACED))}
     wanted |= {(path, name) for path, owners in lists.WIPED.items() for name in owners}
     wanted |= {(path, name) for path, owners in lists.ENTRIES.items() for names in owners.values() for name in names}
+    wanted |= set(lists.PROOFS_OF_MODEL) | set(lists.STD_ITEMS)
     for entry in wanted - used:
         what = lists.REPLACED[entry].old if isinstance(entry, int) else entry
         raise Fault(f"tools/rust.d/lists.py: nothing matches {what!r}")

@@ -50,7 +50,7 @@ pub type Key = key::Key<ExpandedKey>;
 ///
 /// Definitions: [`CanSeal`](crate::specs::gcm#CanSeal), [`aad_bytes`](aead_ciphers_base::specs::values#aad_bytes),
 /// [`Fits`](crate::specs::gcm#Fits), [`gcm_encrypted`](crate::specs::gcm#gcm_encrypted),
-/// [`aes_cipher`](aead_ciphers_base::specs::aes#aes), [`gcm_tag`](crate::specs::gcm#gcm_tag),
+/// [`aes_cipher` (`aes`)](aead_ciphers_base::specs::aes#aes), [`gcm_tag`](crate::specs::gcm#gcm_tag),
 /// [`SealWork`](crate::specs::gcm#SealWork).
 ///
 /// </details>
@@ -86,7 +86,7 @@ pub fn seal<K: GcmKey>(
 /// ```
 ///
 /// Definitions: [`CanOpen`](crate::specs::gcm#CanOpen), [`aad_bytes`](aead_ciphers_base::specs::values#aad_bytes),
-/// [`Opened`](crate::specs::gcm#Opened), [`aes_cipher`](aead_ciphers_base::specs::aes#aes),
+/// [`Opened`](crate::specs::gcm#Opened), [`aes_cipher` (`aes`)](aead_ciphers_base::specs::aes#aes),
 /// [`OpenWork`](crate::specs::gcm#OpenWork).
 ///
 /// </details>

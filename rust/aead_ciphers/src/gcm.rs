@@ -13,6 +13,15 @@ pub use limits::{MAX_AAD_LEN, MAX_IN_OUT_LEN, fits};
 pub use padding::{absorb, lengths};
 
 /// A hash subkey: the 16-byte block H of SP 800-38D.
+///
+/// <details><summary>Model</summary>
+///
+/// ```text
+/// ghost Value = { List ℕ };
+/// ghost view = { λ value. value.block };
+/// ```
+///
+/// </details>
 pub struct KeyValue {
     block: Block,
 }
@@ -34,6 +43,15 @@ impl KeyValue {
 }
 
 /// The intermediate block of a GHASH: 16 bytes.
+///
+/// <details><summary>Model</summary>
+///
+/// ```text
+/// ghost Value = { List ℕ };
+/// ghost view = { λ xi. xi.block };
+/// ```
+///
+/// </details>
 pub struct Xi {
     block: Block,
 }
@@ -134,13 +152,26 @@ pub trait UpdateBlocks: UpdateBlock {
 }
 
 /// A key for GHASH: a hash subkey with its multiples.
+///
+/// <details><summary>Model</summary>
+///
+/// ```text
+/// ghost Value = { List ℕ };
+/// ghost view = { λ key. to_be_bytes w128 (entry key.multiples 0) };
+/// ghost invariant = { λ key.
+///     AreMultiples (to_be_bytes w128 (entry key.multiples 0)) key.multiples };
+/// ```
+///
+/// Definitions: [`entry`](crate::specs::multiples#entry), [`AreMultiples`](crate::specs::multiples#AreMultiples).
+///
+/// </details>
 #[derive(Clone)]
 pub struct Key {
     /// The multiples of the hash subkey (SP 800-38D section 6.3).
     multiples: [u32; 512],
 }
 
-/// Overwrites the key with zeros.
+/// Overwrites the secret fields with zeros.
 impl Drop for Key {
     fn drop(&mut self) {
         simd::wipe(&mut self.multiples);
@@ -183,6 +214,11 @@ pub(crate) fn expand(multiples: &mut [u32; 512], value: KeyValue) {
 }
 
 /// A key for GHASH that borrows the multiples of its hash subkey.
+// Model:
+// ghost Value = { List ℕ };
+// ghost view = { λ key. to_be_bytes w128 (entry key.multiples.now 0) };
+// ghost invariant = { λ key.
+//     AreMultiples (to_be_bytes w128 (entry key.multiples.now 0)) key.multiples.now };
 pub(crate) struct KeyRef<'k> {
     multiples: &'k [u32; 512],
 }
@@ -204,6 +240,13 @@ fn number_of_block(block: Block) -> u128 {
     u128::from_be_bytes(block)
 }
 
+/// <details><summary>Ghost items</summary>
+///
+/// ```text
+/// ghost hash_subkey = { λ key. key };
+/// ```
+///
+/// </details>
 impl<'k> UpdateBlock for KeyRef<'k> {
     #[inline(always)]
     fn update_block(&self, xi: &mut Xi, block: Block, work: &mut Work) {
@@ -225,6 +268,13 @@ impl<'k> UpdateBlocks for KeyRef<'k> {
     }
 }
 
+/// <details><summary>Ghost items</summary>
+///
+/// ```text
+/// ghost hash_subkey = { λ key. key };
+/// ```
+///
+/// </details>
 impl UpdateBlock for Key {
     #[inline(always)]
     fn update_block(&self, xi: &mut Xi, block: Block, work: &mut Work) {

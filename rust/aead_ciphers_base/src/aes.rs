@@ -224,13 +224,26 @@ pub trait EncryptCtr32: EncryptBlock {
 /// assert_eq!(key.new_mask(sample), [0x43, 0x7b, 0x9a, 0xec, 0x36]);
 /// # Ok::<(), Unspecified>(())
 /// ```
+///
+/// <details><summary>Model</summary>
+///
+/// ```text
+/// ghost Value = { List ℕ };
+/// ghost view = { λ key. key_of key.round_keys key.rounds };
+/// ghost invariant = { λ key. IsSchedule key.round_keys key.rounds };
+/// ```
+///
+/// Definitions: [`key_of`](crate::specs::key_schedule#key_of),
+/// [`IsSchedule`](crate::specs::key_schedule#IsSchedule).
+///
+/// </details>
 #[derive(Clone)]
 pub struct Key {
     round_keys: [[u64; 8]; 15],
     rounds: usize,
 }
 
-/// Overwrites the key with zeros.
+/// Overwrites the secret fields with zeros.
 impl Drop for Key {
     fn drop(&mut self) {
         simd::wipe(&mut self.round_keys);
@@ -329,6 +342,19 @@ pub fn expand(round_keys: &mut [[u64; 8]; 15], bytes: KeyBytes<'_>) -> usize {
 }
 
 /// An expanded AES key that borrows its round keys, for example from memory that the caller owns.
+///
+/// <details><summary>Model</summary>
+///
+/// ```text
+/// ghost Value = { List ℕ };
+/// ghost view = { λ key. key_of key.round_keys.now key.rounds };
+/// ghost invariant = { λ key. IsSchedule key.round_keys.now key.rounds };
+/// ```
+///
+/// Definitions: [`key_of`](crate::specs::key_schedule#key_of),
+/// [`IsSchedule`](crate::specs::key_schedule#IsSchedule).
+///
+/// </details>
 pub struct KeyRef<'k> {
     round_keys: &'k [[u64; 8]; 15],
     rounds: usize,
@@ -362,6 +388,15 @@ impl<'k> KeyRef<'k> {
     }
 }
 
+/// <details><summary>Ghost items</summary>
+///
+/// ```text
+/// ghost cipher = { λ key block. aes key block };
+/// ```
+///
+/// Definitions: [`aes`](crate::specs::aes#aes).
+///
+/// </details>
 impl<'k> EncryptBlock for KeyRef<'k> {
     #[inline(always)]
     fn encrypt_block(&self, block: Block, work: &mut Work) -> Block {
@@ -370,6 +405,15 @@ impl<'k> EncryptBlock for KeyRef<'k> {
     }
 }
 
+/// <details><summary>Ghost items</summary>
+///
+/// ```text
+/// ghost cipher = { λ key block. aes key block };
+/// ```
+///
+/// Definitions: [`aes`](crate::specs::aes#aes).
+///
+/// </details>
 impl EncryptBlock for Key {
     #[inline(always)]
     fn encrypt_block(&self, block: Block, work: &mut Work) -> Block {

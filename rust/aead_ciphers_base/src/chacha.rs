@@ -94,6 +94,21 @@ fn xor_stream<const N: usize>(
 /// let counter = Counter::from_nonce_and_ctr(nonce, 1);
 /// assert_eq!(counter.into_words_less_safe(), [1, 0x09000000, 0x4a000000, 0]);
 /// ```
+///
+/// <details><summary>Model</summary>
+///
+/// ```text
+/// ghost Value = { Position };
+/// ghost view = { λ counter. record {
+///   number = slice_index counter.words 0;
+///   nonce = le_bytes (drop 1 counter.words);
+/// } };
+/// ghost invariant = { λ counter. (i : ℕ) → slice_index counter.words i < 2 ^ 32 };
+/// ```
+///
+/// Definitions: [`Position`](crate::specs::cha_cha20#Position), [`le_bytes`](crate::specs::cha_cha20#le_bytes).
+///
+/// </details>
 pub struct Counter {
     words: [u32; 4],
 }
@@ -176,12 +191,24 @@ impl Counter {
 /// key.encrypt(counter(), Overlapping::from(&mut text[..]));
 /// assert_eq!(&text, b"Ladies and Gentlemen");
 /// ```
+///
+/// <details><summary>Model</summary>
+///
+/// ```text
+/// ghost Value = { List ℕ };
+/// ghost view = { λ key. le_bytes key.words };
+/// ghost invariant = { λ key. (i : ℕ) → slice_index key.words i < 2 ^ 32 };
+/// ```
+///
+/// Definitions: [`le_bytes`](crate::specs::cha_cha20#le_bytes).
+///
+/// </details>
 #[derive(Clone)]
 pub struct Key {
     words: [u32; 8],
 }
 
-/// Overwrites the key with zeros.
+/// Overwrites the secret fields with zeros.
 impl Drop for Key {
     fn drop(&mut self) {
         simd::wipe(&mut self.words);

@@ -12,6 +12,15 @@ pub use input_too_long::InputTooLongError;
 pub struct Unspecified;
 
 /// Displays as `unspecified error`.
+///
+/// <details><summary>Ghost items</summary>
+///
+/// ```text
+/// // `Some` of what `{}` prints.
+/// ghost output = { λ _. Some (codes "unspecified error") };
+/// ```
+///
+/// </details>
 impl fmt::Display for Unspecified {
     fn fmt(&self, f: &mut fmt::Formatter<'_>) -> fmt::Result {
         f.write_str("unspecified error")
@@ -21,6 +30,15 @@ impl fmt::Display for Unspecified {
 impl Error for Unspecified {}
 
 /// The error returned when a start or a block does not lie within its input.
+///
+/// <details><summary>Model</summary>
+///
+/// ```text
+/// ghost Value = { ℕ };
+/// ghost view = { λ e. e.0 };
+/// ```
+///
+/// </details>
 #[derive(Clone, Copy, PartialEq, Eq, Debug)]
 pub struct IndexError(usize);
 
@@ -54,6 +72,15 @@ impl IndexError {
 }
 
 /// Displays as `index out of range`.
+///
+/// <details><summary>Ghost items</summary>
+///
+/// ```text
+/// // `Some` of what `{}` prints.
+/// ghost output = { λ _. Some (codes "index out of range") };
+/// ```
+///
+/// </details>
 impl fmt::Display for IndexError {
     fn fmt(&self, f: &mut fmt::Formatter<'_>) -> fmt::Result {
         f.write_str("index out of range")
@@ -63,6 +90,15 @@ impl fmt::Display for IndexError {
 impl Error for IndexError {}
 
 /// The error returned when an input does not have the length that was asked for.
+///
+/// <details><summary>Model</summary>
+///
+/// ```text
+/// ghost Value = { ℕ };
+/// ghost view = { λ e. e.0 };
+/// ```
+///
+/// </details>
 #[derive(Clone, Copy, PartialEq, Eq, Debug)]
 pub struct LenMismatchError(usize);
 
@@ -96,6 +132,15 @@ impl LenMismatchError {
 }
 
 /// Displays as `length mismatch`.
+///
+/// <details><summary>Ghost items</summary>
+///
+/// ```text
+/// // `Some` of what `{}` prints.
+/// ghost output = { λ _. Some (codes "length mismatch") };
+/// ```
+///
+/// </details>
 impl fmt::Display for LenMismatchError {
     fn fmt(&self, f: &mut fmt::Formatter<'_>) -> fmt::Result {
         f.write_str("length mismatch")

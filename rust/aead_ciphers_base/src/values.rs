@@ -31,6 +31,15 @@ pub type Sample = [u8; 16];
 /// assert!(Nonce::try_assume_unique_for_key(rest).is_err());
 /// # Ok::<(), Unspecified>(())
 /// ```
+///
+/// <details><summary>Model</summary>
+///
+/// ```text
+/// ghost Value = { List ℕ };
+/// ghost view = { λ nonce. nonce.bytes };
+/// ```
+///
+/// </details>
 pub struct Nonce {
     bytes: [u8; NONCE_LEN],
 }
@@ -101,6 +110,17 @@ pub struct Aad<'a> {
 }
 
 /// Borrows the bytes of a slice as AAD.
+///
+/// <details><summary>Ghost items</summary>
+///
+/// ```text
+/// // What holds of the argument of `from` and of what it returns.
+/// ghost from_gives = { λ bytes aad. aad_bytes aad ≡ bytes.now };
+/// ```
+///
+/// Definitions: [`aad_bytes`](crate::specs::values#aad_bytes).
+///
+/// </details>
 impl<'a> From<&'a [u8]> for Aad<'a> {
     #[inline(always)]
     fn from(bytes: &'a [u8]) -> Self {
@@ -143,6 +163,17 @@ impl<'a> Aad<'a> {
 }
 
 /// Formats the bytes as a list, such as `Aad([1, 2])`.
+///
+/// <details><summary>Ghost items</summary>
+///
+/// ```text
+/// // `Some` of what `{:?}` prints.
+/// ghost debug_output = { λ aad. debug_variant (codes "Aad") (debug_list (λ b. Some (decimal b)) (aad_bytes aad)) };
+/// ```
+///
+/// Definitions: [`aad_bytes`](crate::specs::values#aad_bytes).
+///
+/// </details>
 impl fmt::Debug for Aad<'_> {
     #[inline(always)]
     fn fmt(&self, f: &mut fmt::Formatter<'_>) -> fmt::Result {
@@ -164,6 +195,15 @@ impl fmt::Debug for Aad<'_> {
 /// assert!(Tag::try_from(&received[1..]).is_err());
 /// # Ok::<(), Unspecified>(())
 /// ```
+///
+/// <details><summary>Model</summary>
+///
+/// ```text
+/// ghost Value = { List ℕ };
+/// ghost view = { λ tag. tag.bytes };
+/// ```
+///
+/// </details>
 #[must_use]
 #[derive(Clone, Copy)]
 pub struct Tag {
@@ -171,6 +211,15 @@ pub struct Tag {
 }
 
 /// Creates a tag from 16 bytes.
+///
+/// <details><summary>Ghost items</summary>
+///
+/// ```text
+/// // What holds of the argument of `from` and of what it returns.
+/// ghost from_gives = { λ bytes tag. tag ≡ bytes };
+/// ```
+///
+/// </details>
 impl From<[u8; MAX_TAG_LEN]> for Tag {
     #[inline(always)]
     fn from(bytes: [u8; MAX_TAG_LEN]) -> Self {
@@ -179,6 +228,15 @@ impl From<[u8; MAX_TAG_LEN]> for Tag {
 }
 
 /// Creates a tag from a slice. Fails with `Unspecified` if the slice is not 16 bytes long.
+///
+/// <details><summary>Ghost items</summary>
+///
+/// ```text
+/// // What holds of the argument of `try_from` and of what it returns.
+/// ghost try_from_gives = { λ bytes r. (IsOk r ↔ (length bytes.now ≡ 16)) × IfOk r (λ tag. tag ≡ bytes.now) };
+/// ```
+///
+/// </details>
 impl TryFrom<&[u8]> for Tag {
     type Error = Unspecified;
 

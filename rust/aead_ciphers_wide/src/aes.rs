@@ -104,6 +104,21 @@ pub fn expand<V: simd::Level>(round_keys: &mut RoundKeys, bytes: KeyBytes<'_>) -
 }
 
 /// An expanded AES key that borrows its round keys, for example from memory that the caller owns.
+///
+/// <details><summary>Model</summary>
+///
+/// ```text
+/// ghost Value = { List ℕ };
+/// ghost view = { λ key. key_of key.round_keys.now key.rounds };
+/// ghost invariant = { λ key. IsSchedule key.round_keys.now key.rounds
+///     × HoldsPlanes key.planes.now key.round_keys.now (key.rounds + 1) };
+/// ```
+///
+/// Definitions: [`key_of`](crate::specs::wide_schedule#key_of),
+/// [`IsSchedule`](crate::specs::wide_schedule#IsSchedule),
+/// [`HoldsPlanes`](crate::specs::wide_schedule#HoldsPlanes).
+///
+/// </details>
 pub struct KeyRef<'k, V: simd::Level> {
     level: core::marker::PhantomData<V>,
 
@@ -169,6 +184,15 @@ impl<'k, V: simd::Level> KeyRef<'k, V> {
     }
 }
 
+/// <details><summary>Ghost items</summary>
+///
+/// ```text
+/// ghost cipher = { λ key block. aes key block };
+/// ```
+///
+/// Definitions: [`aes`](aead_ciphers_base::specs::aes#aes).
+///
+/// </details>
 impl<'k, V: simd::Level> EncryptBlock for KeyRef<'k, V> {
     #[inline(always)]
     fn encrypt_block(&self, block: Block, work: &mut Work) -> Block {

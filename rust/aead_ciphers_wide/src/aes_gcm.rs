@@ -58,7 +58,7 @@ pub struct ExpandedKey {
     pub squares: [u8; 512],
 }
 
-/// Overwrites the key with zeros.
+/// Overwrites the secret fields with zeros.
 impl Drop for ExpandedKey {
     fn drop(&mut self) {
         simd::wipe(&mut self.planes);
@@ -168,8 +168,9 @@ impl ExpandedKey {
     /// ```
     ///
     /// Definitions: [`IsExpanded`](crate::specs::expanded_key#IsExpanded),
-    /// [`OpenedAttached`](aead_ciphers::specs::gcm#OpenedAttached), [`aes_cipher`](aead_ciphers_base::specs::aes#aes),
-    /// [`bytes_of`](crate::specs::expanded_key#bytes_of), [`aad_bytes`](aead_ciphers_base::specs::values#aad_bytes).
+    /// [`OpenedAttached`](aead_ciphers::specs::gcm#OpenedAttached),
+    /// [`aes_cipher` (`aes`)](aead_ciphers_base::specs::aes#aes), [`bytes_of`](crate::specs::expanded_key#bytes_of),
+    /// [`aad_bytes`](aead_ciphers_base::specs::values#aad_bytes).
     ///
     /// </details>
     pub fn open_within_to_front(
@@ -231,7 +232,7 @@ impl ExpandedKey {
     ///
     /// Definitions: [`IsExpanded`](crate::specs::expanded_key#IsExpanded), [`Fits`](aead_ciphers::specs::gcm#Fits),
     /// [`aad_bytes`](aead_ciphers_base::specs::values#aad_bytes), [`HasSealed`](crate::specs::pieces#HasSealed),
-    /// [`aes_cipher`](aead_ciphers_base::specs::aes#aes), [`bytes_of`](crate::specs::expanded_key#bytes_of).
+    /// [`aes_cipher` (`aes`)](aead_ciphers_base::specs::aes#aes), [`bytes_of`](crate::specs::expanded_key#bytes_of).
     ///
     /// </details>
     pub fn begin(&self, nonce: Nonce, aad: Aad<'_>) -> Result<SealState, Unspecified> {
@@ -270,7 +271,7 @@ impl ExpandedKey {
     ///
     /// Definitions: [`IsExpanded`](crate::specs::expanded_key#IsExpanded), [`Fits`](aead_ciphers::specs::gcm#Fits),
     /// [`joined`](crate::specs::pieces#joined), [`HasSealed`](crate::specs::pieces#HasSealed),
-    /// [`aes_cipher`](aead_ciphers_base::specs::aes#aes), [`bytes_of`](crate::specs::expanded_key#bytes_of).
+    /// [`aes_cipher` (`aes`)](aead_ciphers_base::specs::aes#aes), [`bytes_of`](crate::specs::expanded_key#bytes_of).
     ///
     /// </details>
     pub fn begin_with_parts(&self, nonce: Nonce, aad: &[&[u8]]) -> Result<SealState, Unspecified> {
@@ -309,7 +310,7 @@ impl ExpandedKey {
     /// ```
     ///
     /// Definitions: [`IsExpanded`](crate::specs::expanded_key#IsExpanded), [`Fits`](aead_ciphers::specs::gcm#Fits),
-    /// [`SealsPiece`](crate::specs::pieces#SealsPiece), [`aes_cipher`](aead_ciphers_base::specs::aes#aes),
+    /// [`SealsPiece`](crate::specs::pieces#SealsPiece), [`aes_cipher` (`aes`)](aead_ciphers_base::specs::aes#aes),
     /// [`bytes_of`](crate::specs::expanded_key#bytes_of).
     ///
     /// </details>
@@ -346,7 +347,7 @@ impl ExpandedKey {
     /// ```
     ///
     /// Definitions: [`IsExpanded`](crate::specs::expanded_key#IsExpanded), [`Fits`](aead_ciphers::specs::gcm#Fits),
-    /// [`HasSealed`](crate::specs::pieces#HasSealed), [`aes_cipher`](aead_ciphers_base::specs::aes#aes),
+    /// [`HasSealed`](crate::specs::pieces#HasSealed), [`aes_cipher` (`aes`)](aead_ciphers_base::specs::aes#aes),
     /// [`bytes_of`](crate::specs::expanded_key#bytes_of), [`gcm_tag`](aead_ciphers::specs::gcm#gcm_tag).
     ///
     /// </details>
@@ -504,6 +505,18 @@ impl simd::Job for ExpandedKeyNewMask<'_> {
     }
 }
 
+/// <details><summary>Ghost items</summary>
+///
+/// ```text
+/// ghost bytes_of = { specs.bytes_of };
+/// ghost is_expanded = { specs.IsExpanded };
+/// ghost zero_key = { specs.zero_key };
+/// ```
+///
+/// Definitions: [`bytes_of`](crate::specs::expanded_key#bytes_of),
+/// [`IsExpanded`](crate::specs::expanded_key#IsExpanded), [`zero_key`](crate::specs::expanded_key#zero_key).
+///
+/// </details>
 impl GcmKey for ExpandedKey {
     #[inline(always)]
     fn zeros() -> Self {

@@ -39,6 +39,19 @@ fn number_of_block(block: Block) -> u128 {
 }
 
 /// A key for GHASH that borrows the products of its hash subkey and of the square of it.
+///
+/// <details><summary>Model</summary>
+///
+/// ```text
+/// ghost Value = { List ℕ };
+/// ghost view = { λ key. subkey key.products.now };
+/// ghost invariant = { λ key.
+///     ArePowers key.products.now key.squares.now };
+/// ```
+///
+/// Definitions: [`subkey`](crate::specs::products#subkey), [`ArePowers`](crate::specs::products#ArePowers).
+///
+/// </details>
 pub struct KeyRef<'k, V: simd::Level> {
     level: core::marker::PhantomData<V>,
 
@@ -69,6 +82,13 @@ impl<'k, V: simd::Level> KeyRef<'k, V> {
     }
 }
 
+/// <details><summary>Ghost items</summary>
+///
+/// ```text
+/// ghost hash_subkey = { λ key. key };
+/// ```
+///
+/// </details>
 impl<'k, V: simd::Level> UpdateBlock for KeyRef<'k, V> {
     #[inline(always)]
     fn update_block(&self, xi: &mut Xi, block: Block, work: &mut Work) {

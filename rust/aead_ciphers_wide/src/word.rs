@@ -12,6 +12,16 @@ mod wider;
 pub use wider::WiderWord;
 
 /// A number of 128 bits.
+///
+/// <details><summary>Model</summary>
+///
+/// ```text
+/// ghost Value = { ℕ };
+/// ghost view = { λ word. number_l (2 ^ 64) word.lanes };
+/// ghost invariant = { λ word. (length word.lanes ≡ 2) × Each1 (λ x. x < 2 ^ 64) word.lanes };
+/// ```
+///
+/// </details>
 #[derive(Clone, Copy)]
 pub struct Word<V: simd::Level> {
     lanes: u64x2<V>,
@@ -130,6 +140,14 @@ const FILLED: [[u8; 16]; 4] = [
     ],
 ];
 
+/// <details><summary>Ghost items</summary>
+///
+/// ```text
+/// // What holds of the operands of `^` and of the result.
+/// ghost bitxor_gives = { λ a b result. result ≡ bit_xor a b };
+/// ```
+///
+/// </details>
 impl<V: simd::Level> BitXor<Word<V>> for Word<V> {
     type Output = Word<V>;
 
@@ -141,6 +159,14 @@ impl<V: simd::Level> BitXor<Word<V>> for Word<V> {
     }
 }
 
+/// <details><summary>Ghost items</summary>
+///
+/// ```text
+/// // What holds of the operands of `&` and of the result.
+/// ghost bitand_gives = { λ a b result. result ≡ bit_and a b };
+/// ```
+///
+/// </details>
 impl<V: simd::Level> BitAnd<Word<V>> for Word<V> {
     type Output = Word<V>;
 
@@ -152,6 +178,17 @@ impl<V: simd::Level> BitAnd<Word<V>> for Word<V> {
     }
 }
 
+/// <details><summary>Ghost items</summary>
+///
+/// ```text
+/// ghost number = { λ word. word };
+/// ghost width = { 128 };
+/// ghost place = { place_of_eight };
+/// ```
+///
+/// Definitions: [`place_of_eight`](crate::specs::wide_planes#place_of_eight).
+///
+/// </details>
 impl<V: simd::Level> Plane for Word<V> {
     #[inline(always)]
     fn ones() -> Word<V> {

@@ -35,6 +35,25 @@ use crate::{KEY_UPDATE_LEN, MESSAGE_HEADER_LEN};
 /// assert_eq!(messages.next(&mut content)?, None);
 /// # Ok::<(), MessageError>(())
 /// ```
+///
+/// <details><summary>Model</summary>
+///
+/// ```text
+/// ghost Value = { Joining };
+/// ghost view = { λ r. record {
+///   message = cond r.is_whole (take r.filled r.buffer.now) [];
+///   part = cond r.is_whole [] (take r.filled r.buffer.now);
+///   bound = length r.buffer.now;
+///   stage = r.stage;
+///   is_closed = r.is_closed;
+/// } };
+/// ghost invariant = { λ r. (4 ≤ length r.buffer.now) × (r.filled ≤ length r.buffer.now)
+///     × (IsFalse r.is_closed → IsPart (cond r.is_whole [] (take r.filled r.buffer.now))) };
+/// ```
+///
+/// Definitions: [`Joining`](crate::specs::messages#Joining), [`IsPart`](crate::specs::messages#IsPart).
+///
+/// </details>
 pub struct MessageReader<'b> {
     buffer: &'b mut [u8],
     filled: usize,

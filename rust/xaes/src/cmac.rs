@@ -34,6 +34,10 @@ pub(crate) fn first_subkey<V: simd::Level>(cipher: &BlockKeyRef<'_, V>) -> Block
 }
 
 /// CMAC under an AES-256 key that is borrowed: the key's cipher, and the first subkey.
+// Model:
+// ghost Value = { List ℕ };
+// ghost view = { λ cmac. cmac.cipher };
+// ghost invariant = { λ cmac. cmac.subkey ≡ first_subkey (aes cmac.cipher zero_block) };
 pub(crate) struct Cmac<'k, V: simd::Level> {
     level: core::marker::PhantomData<V>,
 

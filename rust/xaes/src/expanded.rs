@@ -50,7 +50,7 @@ pub struct ExpandedKey {
     pub subkey: [u8; 16],
 }
 
-/// Overwrites the key with zeros.
+/// Overwrites the secret fields with zeros.
 impl Drop for ExpandedKey {
     fn drop(&mut self) {
         simd::wipe(&mut self.round_keys);
@@ -143,10 +143,11 @@ impl ExpandedKey {
     /// ```
     ///
     /// Definitions: [`IsExpanded`](crate::specs::expanded#IsExpanded),
-    /// [`IsGcmKey`](aead_ciphers_wide::specs::expanded_key#IsExpanded),
-    /// [`gcm_key_bytes`](aead_ciphers_wide::specs::expanded_key#bytes_of),
-    /// [`message_key_of`](crate::specs::xaes#message_key), [`bytes_of`](crate::specs::expanded#bytes_of),
-    /// [`message_nonce`](crate::specs::xaes#message_nonce), [`message_width`](crate::specs::expanded#message_width).
+    /// [`IsGcmKey` (`IsExpanded`)](aead_ciphers_wide::specs::expanded_key#IsExpanded),
+    /// [`gcm_key_bytes` (`bytes_of`)](aead_ciphers_wide::specs::expanded_key#bytes_of),
+    /// [`message_key_of` (`message_key`)](crate::specs::xaes#message_key),
+    /// [`bytes_of`](crate::specs::expanded#bytes_of), [`message_nonce`](crate::specs::xaes#message_nonce),
+    /// [`message_width`](crate::specs::expanded#message_width).
     ///
     /// </details>
     pub fn expand_message_key(

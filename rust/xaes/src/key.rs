@@ -45,11 +45,34 @@ use core::ops::RangeFrom;
 /// assert_eq!(&message[..len], b"XAES-256-GCM");
 /// # Ok::<(), Unspecified>(())
 /// ```
+///
+/// <details><summary>Model</summary>
+///
+/// ```text
+/// ghost Value = { List ℕ };
+/// ghost view = { λ key. bytes_of key.expanded };
+/// ghost invariant = { λ key. IsExpanded key.expanded };
+/// ```
+///
+/// Definitions: [`bytes_of`](crate::specs::expanded#bytes_of), [`IsExpanded`](crate::specs::expanded#IsExpanded).
+///
+/// </details>
 pub struct Xaes256Gcm {
     expanded: ExpandedKey,
 }
 
 /// Copies the expanded key. Cloning allocates no memory and always succeeds.
+///
+/// <details><summary>Ghost items</summary>
+///
+/// ```text
+/// // What holds of a value and of what `clone` returns for it.
+/// ghost is_clone = { λ key clone. clone ≡ key };
+/// // For which values `clone` doesn't fail.
+/// ghost is_infallible = { λ _. ⊤ };
+/// ```
+///
+/// </details>
 impl Clone for Xaes256Gcm {
     fn clone(&self) -> Self {
         Xaes256Gcm {
@@ -425,6 +448,15 @@ impl simd::Job for Xaes256GcmDerivedBlocks<'_> {
 }
 
 /// Shows no byte of the key.
+///
+/// <details><summary>Ghost items</summary>
+///
+/// ```text
+/// // `Some` of what `{:?}` prints.
+/// ghost debug_output = { λ _. Some (codes "Xaes256Gcm { .. }") };
+/// ```
+///
+/// </details>
 impl fmt::Debug for Xaes256Gcm {
     fn fmt(&self, f: &mut fmt::Formatter<'_>) -> fmt::Result {
         f.write_str("Xaes256Gcm { .. }")

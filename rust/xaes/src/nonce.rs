@@ -23,6 +23,15 @@ pub const XAES_NONCE_LEN: usize = CONTEXT_LEN + NONCE_LEN;
 /// assert!(XNonce::try_assume_unique_for_key(&drawn[1..]).is_err());
 /// # Ok::<(), Unspecified>(())
 /// ```
+///
+/// <details><summary>Model</summary>
+///
+/// ```text
+/// ghost Value = { List ℕ };
+/// ghost view = { λ nonce. nonce.bytes };
+/// ```
+///
+/// </details>
 pub struct XNonce {
     bytes: [u8; XAES_NONCE_LEN],
 }

@@ -99,6 +99,16 @@ impl Algorithm {
     }
 }
 
+/// <details><summary>Ghost items</summary>
+///
+/// ```text
+/// // `Some` of what `{:?}` prints.
+/// ghost debug_output = { λ algorithm. Some (debug_text algorithm) };
+/// ```
+///
+/// Definitions: [`debug_text`](crate::specs::algorithm#debug_text).
+///
+/// </details>
 impl fmt::Debug for Algorithm {
     fn fmt(&self, f: &mut fmt::Formatter<'_>) -> fmt::Result {
         match self.id {

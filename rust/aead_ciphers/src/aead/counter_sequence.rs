@@ -18,6 +18,18 @@ use crate::aead::{NONCE_LEN, Nonce, NonceSequence, Unspecified};
 /// assert!(sequence.advance().is_err());
 /// # Ok::<(), Unspecified>(())
 /// ```
+///
+/// <details><summary>Model</summary>
+///
+/// ```text
+/// ghost Value = { Counting };
+/// ghost view = { λ s. record { fixed = s.prefix; first = s.first; count = s.count; used = s.used } };
+/// ghost invariant = { λ s. (s.used ≤ s.count) × (s.first + s.count ≤ 2 ^ 64) };
+/// ```
+///
+/// Definitions: [`Counting`](crate::specs::counting#Counting).
+///
+/// </details>
 pub struct CounterSequence {
     prefix: [u8; 4],
     first: u64,
@@ -67,6 +79,22 @@ fn prefixed(prefix: &[u8; 4], number: u64) -> Nonce {
     Nonce::assume_unique_for_key(bytes)
 }
 
+/// <details><summary>Ghost items</summary>
+///
+/// ```text
+/// ghost spent = { spent_nonces prefixed_nonce };
+/// ghost is_closed = { is_used_up };
+/// ghost origin = { origin_of };
+/// ghost gives = { λ s t. (s.used < s.count) × (t ≡ record s { used = s.used + 1 }) };
+/// ghost refuses = { λ s t. (s.count ≤ s.used) × (t ≡ s) };
+/// ghost is_next = { λ s nonce. nonce ≡ next_nonce prefixed_nonce s };
+/// ```
+///
+/// Definitions: [`spent_nonces`](crate::specs::counting#spent_nonces),
+/// [`prefixed_nonce`](crate::specs::counting#prefixed_nonce), [`is_used_up`](crate::specs::counting#is_used_up),
+/// [`origin_of`](crate::specs::counting#origin_of), [`next_nonce`](crate::specs::counting#next_nonce).
+///
+/// </details>
 impl NonceSequence for CounterSequence {
     fn advance(&mut self) -> Result<Nonce, Unspecified> {
         if self.used >= self.count {

@@ -120,6 +120,19 @@ pub trait InOut {
 }
 
 /// `grow_by_tag` fails only if the spare capacity is less than 16 bytes and the allocator refuses to extend it.
+///
+/// <details><summary>Ghost items</summary>
+///
+/// ```text
+/// ghost bytes = { λ v. v.items };
+/// ghost with_bytes = { with_items };
+/// ghost may_refuse = { λ v. vec_capacity v < vec_len v + tag_len };
+/// ghost may_grant = { λ _. ⊤ };
+/// ```
+///
+/// Definitions: [`tag_len`](crate::specs::gcm#tag_len).
+///
+/// </details>
 #[cfg(feature = "alloc")]
 impl InOut for Vec<u8> {
     fn as_mut_bytes(&mut self) -> &mut [u8] {

@@ -17,12 +17,35 @@ use core::ops::RangeFrom;
 ///
 /// Programs use the alias of the same name, which fixes `K` and has an example: `deerlapse::aead::LessSafeKey` in Rust,
 /// `aead_ciphers_wide::aead::LessSafeKey` in Rattle.
+///
+/// <details><summary>Model</summary>
+///
+/// ```text
+/// ghost Value = { AeadKey };
+/// ghost view = { λ key. record { algorithm = key.algorithm.now; bytes = K.bytes_of key.key } };
+/// ghost invariant = { λ key. K.is_expanded key.key };
+/// ```
+///
+/// Definitions: [`AeadKey`](crate::specs::aead_key#AeadKey).
+///
+/// </details>
 pub struct LessSafeKey<K: GcmKey> {
     key: K,
     algorithm: &'static Algorithm,
 }
 
 /// Copies the expanded key and its algorithm. Cloning allocates no memory and always succeeds.
+///
+/// <details><summary>Ghost items</summary>
+///
+/// ```text
+/// // What holds of a value and of what `clone` returns for it.
+/// ghost is_clone = { λ key clone. clone ≡ key };
+/// // For which values `clone` doesn't fail.
+/// ghost is_infallible = { λ _. ⊤ };
+/// ```
+///
+/// </details>
 impl<K: GcmKey> Clone for LessSafeKey<K> {
     fn clone(&self) -> Self {
         LessSafeKey {
@@ -512,6 +535,16 @@ impl<K: GcmKey> LessSafeKey<K> {
     }
 }
 
+/// <details><summary>Ghost items</summary>
+///
+/// ```text
+/// // `Some` of what `{:?}` prints.
+/// ghost debug_output = { λ key. Some (key_debug_text (codes "LessSafeKey") key) };
+/// ```
+///
+/// Definitions: [`key_debug_text`](crate::specs::aead_key#key_debug_text).
+///
+/// </details>
 impl<K: GcmKey> fmt::Debug for LessSafeKey<K> {
     fn fmt(&self, f: &mut fmt::Formatter<'_>) -> fmt::Result {
         let algorithm = self.algorithm;

@@ -15,11 +15,32 @@ use core::ops::RangeFrom;
 ///
 /// Programs use the alias of the same name, which fixes `K` and has an example: `deerlapse::aead::OpeningKey` in Rust,
 /// `aead_ciphers_wide::aead::OpeningKey` in Rattle.
+///
+/// <details><summary>Model</summary>
+///
+/// ```text
+/// ghost Value = { BoundState N };
+/// ghost view = { λ bound. record { key = bound.key; sequence = bound.nonce_sequence } };
+/// ```
+///
+/// Definitions: [`BoundState`](crate::specs::bound_state#BoundState).
+///
+/// </details>
 pub struct OpeningKey<K: GcmKey, N> {
     key: LessSafeKey<K>,
     nonce_sequence: N,
 }
 
+/// <details><summary>Ghost items</summary>
+///
+/// ```text
+/// // `Some` of what `{:?}` prints.
+/// ghost debug_output = { λ bound. Some (key_debug_text (codes "OpeningKey") bound.key) };
+/// ```
+///
+/// Definitions: [`key_debug_text`](crate::specs::aead_key#key_debug_text).
+///
+/// </details>
 impl<K: GcmKey, N> fmt::Debug for OpeningKey<K, N> {
     fn fmt(&self, f: &mut fmt::Formatter<'_>) -> fmt::Result {
         let algorithm = self.key.algorithm();
@@ -27,6 +48,14 @@ impl<K: GcmKey, N> fmt::Debug for OpeningKey<K, N> {
     }
 }
 
+/// <details><summary>Ghost items</summary>
+///
+/// ```text
+/// ghost key = { λ bound. bound.key };
+/// ghost sequence = { λ bound. bound.sequence };
+/// ```
+///
+/// </details>
 impl<K: GcmKey, N: NonceSequence> BoundKey<N> for OpeningKey<K, N> {
     fn new(unbound_key: UnboundKey, nonce_sequence: N) -> Self {
         OpeningKey {

@@ -39,6 +39,16 @@ pub const CHACHA20: Algorithm = Algorithm {
     id: AlgorithmId::CHACHA20,
 };
 
+/// <details><summary>Ghost items</summary>
+///
+/// ```text
+/// // `Some` of what `{:?}` prints.
+/// ghost debug_output = { λ algorithm. Some (debug_text algorithm) };
+/// ```
+///
+/// Definitions: [`debug_text`](crate::specs::header_protection#debug_text).
+///
+/// </details>
 impl fmt::Debug for Algorithm {
     fn fmt(&self, f: &mut fmt::Formatter<'_>) -> fmt::Result {
         match self.id {
@@ -87,6 +97,18 @@ impl Algorithm {
 }
 
 /// A header protection key with its algorithm.
+///
+/// <details><summary>Model</summary>
+///
+/// ```text
+/// ghost Value = { HeaderKey };
+/// ghost view = { λ key. header_key key.inner };
+/// ```
+///
+/// Definitions: [`HeaderKey`](crate::specs::header_protection#HeaderKey),
+/// [`header_key`](crate::specs::header_protection#header_key).
+///
+/// </details>
 pub struct HeaderProtectionKey {
     inner: KeyInner,
 }

@@ -10,11 +10,32 @@ use core::fmt;
 ///
 /// Programs use the alias of the same name, which fixes `K` and has an example: `deerlapse::aead::SealingKey` in Rust,
 /// `aead_ciphers_wide::aead::SealingKey` in Rattle.
+///
+/// <details><summary>Model</summary>
+///
+/// ```text
+/// ghost Value = { BoundState N };
+/// ghost view = { λ bound. record { key = bound.key; sequence = bound.nonce_sequence } };
+/// ```
+///
+/// Definitions: [`BoundState`](crate::specs::bound_state#BoundState).
+///
+/// </details>
 pub struct SealingKey<K: GcmKey, N> {
     key: LessSafeKey<K>,
     nonce_sequence: N,
 }
 
+/// <details><summary>Ghost items</summary>
+///
+/// ```text
+/// // `Some` of what `{:?}` prints.
+/// ghost debug_output = { λ bound. Some (key_debug_text (codes "SealingKey") bound.key) };
+/// ```
+///
+/// Definitions: [`key_debug_text`](crate::specs::aead_key#key_debug_text).
+///
+/// </details>
 impl<K: GcmKey, N> fmt::Debug for SealingKey<K, N> {
     fn fmt(&self, f: &mut fmt::Formatter<'_>) -> fmt::Result {
         let algorithm = self.key.algorithm();
@@ -22,6 +43,14 @@ impl<K: GcmKey, N> fmt::Debug for SealingKey<K, N> {
     }
 }
 
+/// <details><summary>Ghost items</summary>
+///
+/// ```text
+/// ghost key = { λ bound. bound.key };
+/// ghost sequence = { λ bound. bound.sequence };
+/// ```
+///
+/// </details>
 impl<K: GcmKey, N: NonceSequence> BoundKey<N> for SealingKey<K, N> {
     fn new(unbound_key: UnboundKey, nonce_sequence: N) -> Self {
         SealingKey {

@@ -20,6 +20,19 @@ use core::fmt;
 /// assert!(UnboundKey::new(&AES_128_GCM, &bytes).is_err());
 /// # Ok::<(), Unspecified>(())
 /// ```
+///
+/// <details><summary>Model</summary>
+///
+/// ```text
+/// ghost Value = { AeadKey };
+/// ghost view = { λ key.
+///     record { algorithm = key.algorithm.now; bytes = unbound_bytes key.bytes } };
+/// ```
+///
+/// Definitions: [`AeadKey`](crate::specs::aead_key#AeadKey),
+/// [`unbound_bytes`](crate::specs::unbound_bytes#unbound_bytes).
+///
+/// </details>
 pub struct UnboundKey {
     algorithm: &'static Algorithm,
     bytes: UnboundBytes,
@@ -32,7 +45,7 @@ enum UnboundBytes {
     AES_256([u8; AES_256_KEY_LEN]),
 }
 
-/// Overwrites the key with zeros.
+/// Overwrites the secret fields with zeros.
 impl Drop for UnboundBytes {
     fn drop(&mut self) {
         match self {
@@ -90,6 +103,16 @@ impl UnboundKey {
     }
 }
 
+/// <details><summary>Ghost items</summary>
+///
+/// ```text
+/// // `Some` of what `{:?}` prints.
+/// ghost debug_output = { λ key. Some (key_debug_text (codes "UnboundKey") key) };
+/// ```
+///
+/// Definitions: [`key_debug_text`](crate::specs::aead_key#key_debug_text).
+///
+/// </details>
 impl fmt::Debug for UnboundKey {
     fn fmt(&self, f: &mut fmt::Formatter<'_>) -> fmt::Result {
         let algorithm = self.algorithm();

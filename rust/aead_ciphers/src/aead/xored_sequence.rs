@@ -24,6 +24,18 @@ use aead_ciphers_base::bb;
 /// assert_eq!(nonce_of(&iv, 654360564).as_ref(), &nonce);
 /// # Ok::<(), Unspecified>(())
 /// ```
+///
+/// <details><summary>Model</summary>
+///
+/// ```text
+/// ghost Value = { Counting };
+/// ghost view = { λ s. record { fixed = s.iv; first = s.first; count = s.count; used = s.used } };
+/// ghost invariant = { λ s. (s.used ≤ s.count) × (s.first + s.count ≤ 2 ^ 64) × (length s.iv ≡ 12) };
+/// ```
+///
+/// Definitions: [`Counting`](crate::specs::counting#Counting).
+///
+/// </details>
 pub struct XoredSequence {
     iv: [u8; NONCE_LEN],
     first: u64,
@@ -83,6 +95,22 @@ pub fn nonce_of(iv: &[u8; NONCE_LEN], number: u64) -> Nonce {
     Nonce::assume_unique_for_key(bytes)
 }
 
+/// <details><summary>Ghost items</summary>
+///
+/// ```text
+/// ghost spent = { spent_nonces xored_nonce };
+/// ghost is_closed = { is_used_up };
+/// ghost origin = { origin_of };
+/// ghost gives = { λ s t. (s.used < s.count) × (t ≡ record s { used = s.used + 1 }) };
+/// ghost refuses = { λ s t. (s.count ≤ s.used) × (t ≡ s) };
+/// ghost is_next = { λ s nonce. nonce ≡ next_nonce xored_nonce s };
+/// ```
+///
+/// Definitions: [`spent_nonces`](crate::specs::counting#spent_nonces),
+/// [`xored_nonce`](crate::specs::counting#xored_nonce), [`is_used_up`](crate::specs::counting#is_used_up),
+/// [`origin_of`](crate::specs::counting#origin_of), [`next_nonce`](crate::specs::counting#next_nonce).
+///
+/// </details>
 impl NonceSequence for XoredSequence {
     fn advance(&mut self) -> Result<Nonce, Unspecified> {
         if self.used >= self.count {

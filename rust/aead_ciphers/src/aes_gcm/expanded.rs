@@ -21,7 +21,7 @@ pub struct ExpandedKey {
     multiples: [u32; 512],
 }
 
-/// Overwrites the key with zeros.
+/// Overwrites the secret fields with zeros.
 impl Drop for ExpandedKey {
     fn drop(&mut self) {
         simd::wipe(&mut self.round_keys);
@@ -29,6 +29,18 @@ impl Drop for ExpandedKey {
     }
 }
 
+/// <details><summary>Ghost items</summary>
+///
+/// ```text
+/// ghost bytes_of = { specs.bytes_of };
+/// ghost is_expanded = { specs.IsExpanded };
+/// ghost zero_key = { specs.zero_key };
+/// ```
+///
+/// Definitions: [`bytes_of`](crate::specs::expanded_key#bytes_of),
+/// [`IsExpanded`](crate::specs::expanded_key#IsExpanded), [`zero_key`](crate::specs::expanded_key#zero_key).
+///
+/// </details>
 impl GcmKey for ExpandedKey {
     #[inline(always)]
     fn zeros() -> Self {

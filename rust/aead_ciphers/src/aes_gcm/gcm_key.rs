@@ -88,7 +88,7 @@ pub trait GcmKey: Clone {
     ///
     /// Definitions: [`CanSeal`](crate::specs::gcm#CanSeal), [`aad_bytes`](aead_ciphers_base::specs::values#aad_bytes),
     /// [`Fits`](crate::specs::gcm#Fits), [`gcm_encrypted`](crate::specs::gcm#gcm_encrypted),
-    /// [`aes_cipher`](aead_ciphers_base::specs::aes#aes), [`gcm_tag`](crate::specs::gcm#gcm_tag),
+    /// [`aes_cipher` (`aes`)](aead_ciphers_base::specs::aes#aes), [`gcm_tag`](crate::specs::gcm#gcm_tag),
     /// [`SealWork`](crate::specs::gcm#SealWork).
     ///
     /// </details>
@@ -125,7 +125,7 @@ pub trait GcmKey: Clone {
     /// ```
     ///
     /// Definitions: [`CanOpen`](crate::specs::gcm#CanOpen), [`aad_bytes`](aead_ciphers_base::specs::values#aad_bytes),
-    /// [`Opened`](crate::specs::gcm#Opened), [`aes_cipher`](aead_ciphers_base::specs::aes#aes),
+    /// [`Opened`](crate::specs::gcm#Opened), [`aes_cipher` (`aes`)](aead_ciphers_base::specs::aes#aes),
     /// [`OpenWork`](crate::specs::gcm#OpenWork).
     ///
     /// </details>
@@ -170,7 +170,7 @@ pub trait GcmKey: Clone {
     ///
     /// Definitions: [`CanSeal`](crate::specs::gcm#CanSeal), [`aad_bytes`](aead_ciphers_base::specs::values#aad_bytes),
     /// [`Fits`](crate::specs::gcm#Fits), [`gcm_tag`](crate::specs::gcm#gcm_tag),
-    /// [`aes_cipher`](aead_ciphers_base::specs::aes#aes), [`gcm_decrypted`](crate::specs::gcm#gcm_decrypted),
+    /// [`aes_cipher` (`aes`)](aead_ciphers_base::specs::aes#aes), [`gcm_decrypted`](crate::specs::gcm#gcm_decrypted),
     /// [`OpenWork`](crate::specs::gcm#OpenWork).
     ///
     /// </details>

@@ -6,11 +6,32 @@ use aead_ciphers_base::aes::{KeyBytes, Work};
 use aead_ciphers_base::error::Unspecified;
 
 /// An AES-GCM key for `aes_gcm::seal` and `aes_gcm::open`: the expanded AES key and its hash subkey.
+///
+/// <details><summary>Model</summary>
+///
+/// ```text
+/// ghost Value = { List ℕ };
+/// ghost view = { λ key. K.bytes_of key.expanded };
+/// ghost invariant = { λ key. K.is_expanded key.expanded };
+/// ```
+///
+/// </details>
 pub struct Key<K: GcmKey> {
     pub(super) expanded: K,
 }
 
 /// Copies the expanded key. Cloning allocates no memory and always succeeds.
+///
+/// <details><summary>Ghost items</summary>
+///
+/// ```text
+/// // What holds of a value and of what `clone` returns for it.
+/// ghost is_clone = { λ key clone. clone ≡ key };
+/// // For which values `clone` doesn't fail.
+/// ghost is_infallible = { λ _. ⊤ };
+/// ```
+///
+/// </details>
 impl<K: GcmKey> Clone for Key<K> {
     #[inline(always)]
     fn clone(&self) -> Self {

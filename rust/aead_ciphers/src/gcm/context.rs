@@ -8,6 +8,23 @@ use aead_ciphers_base::polyfill::slice::AsChunks;
 use aead_ciphers_base::values::{Aad, Tag};
 
 /// A hash of the AAD, which is updated with the ciphertext block by block (SP 800-38D section 7.1, steps 4 and 5).
+///
+/// <details><summary>Model</summary>
+///
+/// ```text
+/// ghost Value = { HashState };
+/// ghost view = { λ context. record {
+///   hash_subkey = K.hash_subkey context.key.now;
+///   aad_len = context.aad_len;
+///   in_out_len = context.in_out_len;
+///   xi = context.xi;
+/// } };
+/// ghost invariant = { λ context. Fits context.aad_len context.in_out_len };
+/// ```
+///
+/// Definitions: [`HashState`](crate::specs::hash_of#HashState), [`Fits`](crate::specs::gcm#Fits).
+///
+/// </details>
 pub struct Context<'key, K: UpdateBlock> {
     xi: Xi,
     key: &'key K,

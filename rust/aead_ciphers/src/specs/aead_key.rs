@@ -1,7 +1,7 @@
 // Written by tools/rust from crates/aead_ciphers/specs/AeadKey.antt. Don't edit.
 //! What a contract sees of a key: its algorithm and its bytes.
 //!
-//! The definitions of `crates/aead_ciphers/specs/AeadKey.antt`, which use those of [`algorithm`](crate::specs::algorithm).
+//! The definitions of `crates/aead_ciphers/specs/AeadKey.antt` of the repository.
 //!
 //! <div id="AeadKey"></div>
 //!
@@ -18,3 +18,5 @@
 //! abbrev pub key_debug_text : List ℕ → AeadKey → List ℕ
 //! key_debug_text name key = name ++ (codes " { algorithm: " ++ (debug_text key.algorithm ++ codes " }"))
 //! ```
+//!
+//! Definitions: [`AeadKey`](crate::specs::aead_key#AeadKey), [`debug_text`](crate::specs::algorithm#debug_text).

@@ -1,7 +1,7 @@
 // Written by tools/rust from crates/aead_ciphers/specs/Algorithm.antt. Don't edit.
 //! What a contract sees of an `Algorithm`.
 //!
-//! The definitions of `crates/aead_ciphers/specs/Algorithm.antt`.
+//! The definitions of `crates/aead_ciphers/specs/Algorithm.antt` of the repository.
 //!
 //! <div id="id"></div>
 //!
@@ -27,6 +27,8 @@
 //! key_len algorithm = id_key_len algorithm.id
 //! ```
 //!
+//! Definitions: [`id_key_len`](crate::specs::algorithm#id_key_len).
+//!
 //! <div id="id_debug_text"></div>
 //!
 //! ```text
@@ -42,3 +44,5 @@
 //! abbrev pub debug_text : Algorithm → List ℕ
 //! debug_text algorithm = id_debug_text algorithm.id
 //! ```
+//!
+//! Definitions: [`id_debug_text`](crate::specs::algorithm#id_debug_text).

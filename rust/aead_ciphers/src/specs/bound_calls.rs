@@ -1,7 +1,7 @@
 // Written by tools/rust from crates/aead_ciphers/specs/BoundCalls.antt. Don't edit.
 //! What one call of a bound key does to the key, its sequence and the buffer, and what the sequence says of its nonce.
 //!
-//! The definitions of `crates/aead_ciphers/specs/BoundCalls.antt`, which use those of [`bound_state`](crate::specs::bound_state), [`gcm`](crate::specs::gcm), [`nonce_sequence`](crate::specs::nonce_sequence), [`steps`](crate::specs::steps), [`aes`](aead_ciphers_base::specs::aes).
+//! The definitions of `crates/aead_ciphers/specs/BoundCalls.antt` of the repository.
 //!
 //! <div id="SealingCall"></div>
 //!
@@ -28,9 +28,13 @@
 //!     pub after_error : OnErr result ((may_refuse × (now ≡ was)) ⊎ Refuses was.sequence now.sequence ⊎ Gives was.sequence now.sequence)
 //! ```
 //!
+//! Definitions: [`BoundState`](crate::specs::bound_state#BoundState), [`Keeps`](crate::specs::bound_state#Keeps),
+//! [`SealStep`](crate::specs::steps#SealStep), [`Fits`](crate::specs::gcm#Fits).
+//!
 //! <div id="OpeningCall"></div>
 //!
 //! ```text
+//! module _ {N : Type 0} (spent : N → List (List ℕ)) (is_closed : N → Bool) (origin : N → List ℕ) (Gives Refuses : N → N → Type 0) where
 //!   -- Opening with the tag attached: unless the sequence refuses, under its next nonce.
 //!   -- kept: the key and the origin of the sequence are unchanged
 //!   -- step: one of the cases of `OpenStep`
@@ -51,3 +55,8 @@
 //!     pub gives : OnOk result (Gives was.sequence now.sequence)
 //!     pub after_error : OnErr result (Refuses was.sequence now.sequence ⊎ Gives was.sequence now.sequence)
 //! ```
+//!
+//! Definitions: [`BoundState`](crate::specs::bound_state#BoundState), [`Keeps`](crate::specs::bound_state#Keeps),
+//! [`OpenStep`](crate::specs::steps#OpenStep), [`UnderNext`](crate::specs::nonce_sequence#UnderNext),
+//! [`OpenedAttached`](crate::specs::gcm#OpenedAttached), [`aes`](aead_ciphers_base::specs::aes#aes),
+//! [`tag_len`](crate::specs::gcm#tag_len), [`gcm_decrypted`](crate::specs::gcm#gcm_decrypted).

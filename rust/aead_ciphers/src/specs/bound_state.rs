@@ -1,7 +1,7 @@
 // Written by tools/rust from crates/aead_ciphers/specs/BoundState.antt. Don't edit.
 //! What a contract sees of a key that is bound to a nonce sequence.
 //!
-//! The definitions of `crates/aead_ciphers/specs/BoundState.antt`, which use those of [`aead_key`](crate::specs::aead_key).
+//! The definitions of `crates/aead_ciphers/specs/BoundState.antt` of the repository.
 //!
 //! <div id="BoundState"></div>
 //!
@@ -12,6 +12,8 @@
 //!   pub sequence : N
 //! ```
 //!
+//! Definitions: [`AeadKey`](crate::specs::aead_key#AeadKey).
+//!
 //! <div id="Keeps"></div>
 //!
 //! ```text
@@ -20,3 +22,5 @@
 //!   pub key_kept : now.key ≡ was.key
 //!   pub origin_kept : origin now.sequence ≡ origin was.sequence
 //! ```
+//!
+//! Definitions: [`BoundState`](crate::specs::bound_state#BoundState).

@@ -1,7 +1,7 @@
 // Written by tools/rust from crates/aead_ciphers/specs/Counting.antt. Don't edit.
 //! What a contract sees of a `CounterSequence` and of an `XoredSequence`.
 //!
-//! The definitions of `crates/aead_ciphers/specs/Counting.antt`, which use those of [`bytes`](aead_ciphers_base::specs::bytes).
+//! The definitions of `crates/aead_ciphers/specs/Counting.antt` of the repository.
 //!
 //! <div id="Counting"></div>
 //!
@@ -32,6 +32,8 @@
 //! xored_nonce iv number = (0 ∷ 0 ∷ 0 ∷ 0 ∷ to_be_bytes w64 number) ⊕ iv
 //! ```
 //!
+//! Definitions: [`⊕`](aead_ciphers_base::specs::bytes#⊕).
+//!
 //! <div id="spent_nonces"></div>
 //!
 //! ```text
@@ -39,6 +41,9 @@
 //! unfoldable pub spent_nonces : (List ℕ → ℕ → List ℕ) → Counting → List (List ℕ)
 //! spent_nonces nonce s = each_below s.used (λ k. nonce s.fixed (s.first + k))
 //! ```
+//!
+//! Definitions: [`Counting`](crate::specs::counting#Counting),
+//! [`each_below`](aead_ciphers_base::specs::bytes#each_below).
 //!
 //! <div id="next_nonce"></div>
 //!
@@ -48,6 +53,8 @@
 //! next_nonce nonce s = nonce s.fixed (s.first + s.used)
 //! ```
 //!
+//! Definitions: [`Counting`](crate::specs::counting#Counting).
+//!
 //! <div id="is_used_up"></div>
 //!
 //! ```text
@@ -56,6 +63,8 @@
 //! is_used_up s = nat_eq s.used s.count
 //! ```
 //!
+//! Definitions: [`Counting`](crate::specs::counting#Counting).
+//!
 //! <div id="origin_of"></div>
 //!
 //! ```text
@@ -63,3 +72,5 @@
 //! abbrev pub origin_of : Counting → List ℕ
 //! origin_of s = s.fixed ++ s.first ∷ s.count ∷ []
 //! ```
+//!
+//! Definitions: [`Counting`](crate::specs::counting#Counting).

@@ -1,7 +1,7 @@
 // Written by tools/rust from crates/aead_ciphers/specs/FreshNonces.antt. Don't edit.
 //! No nonce is used twice.
 //!
-//! The definitions of `crates/aead_ciphers/specs/FreshNonces.antt`, which use those of [`bound_state`](crate::specs::bound_state), [`runs`](crate::specs::runs), [`steps`](crate::specs::steps).
+//! The definitions of `crates/aead_ciphers/specs/FreshNonces.antt` of the repository.
 //!
 //! <div id="GrewFresh"></div>
 //!
@@ -22,3 +22,6 @@
 //! SealCalls spent is_closed first last calls answers =
 //!     Runs (λ was now call answer. SealStep spent is_closed ⊤ ⊤ was now call.0 call.1 answer.0 answer.1) first last calls answers
 //! ```
+//!
+//! Definitions: [`BoundState`](crate::specs::bound_state#BoundState), [`Runs`](crate::specs::runs#Runs),
+//! [`SealStep`](crate::specs::steps#SealStep).

@@ -2,7 +2,7 @@
 //! Authenticated encryption with a block cipher of 16-byte blocks, 12-byte nonces and 16-byte tags (SP 800-38D
 //! section 7). A cipher is a function on blocks. Bytes are taken by index, and are 0 past the end.
 //!
-//! The definitions of `crates/aead_ciphers/specs/Gcm.antt`, which use those of [`ghash`](crate::specs::ghash), [`bytes`](aead_ciphers_base::specs::bytes), [`counter_mode`](aead_ciphers_base::specs::counter_mode), [`work`](aead_ciphers_base::specs::work).
+//! The definitions of `crates/aead_ciphers/specs/Gcm.antt` of the repository.
 //!
 //! <div id="tag_len"></div>
 //!
@@ -20,6 +20,8 @@
 //! padded_block bytes i = each_below 16 (λ j. slice_index bytes (16 * i + j))
 //! ```
 //!
+//! Definitions: [`each_below`](aead_ciphers_base::specs::bytes#each_below).
+//!
 //! <div id="padded_blocks"></div>
 //!
 //! ```text
@@ -27,6 +29,9 @@
 //! unfoldable pub padded_blocks : List ℕ → List (List ℕ)
 //! padded_blocks bytes = each_below ((length bytes + 15) / 16) (padded_block bytes)
 //! ```
+//!
+//! Definitions: [`each_below`](aead_ciphers_base::specs::bytes#each_below),
+//! [`padded_block`](crate::specs::gcm#padded_block).
 //!
 //! <div id="length_block"></div>
 //!
@@ -46,6 +51,9 @@
 //!     padded_blocks aad ++ padded_blocks ciphertext ++ length_block (length aad) (length ciphertext) ∷ []
 //! ```
 //!
+//! Definitions: [`padded_blocks`](crate::specs::gcm#padded_blocks),
+//! [`length_block`](crate::specs::gcm#length_block).
+//!
 //! <div id="Fits"></div>
 //!
 //! ```text
@@ -63,6 +71,8 @@
 //! gcm_encrypted cipher nonce message = counter_mode cipher nonce 2 message
 //! ```
 //!
+//! Definitions: [`counter_mode`](aead_ciphers_base::specs::counter_mode#counter_mode).
+//!
 //! <div id="gcm_decrypted"></div>
 //!
 //! ```text
@@ -70,6 +80,8 @@
 //! abbrev pub gcm_decrypted : (List ℕ → List ℕ) → List ℕ → List ℕ → List ℕ
 //! gcm_decrypted cipher nonce ciphertext = counter_mode cipher nonce 2 ciphertext
 //! ```
+//!
+//! Definitions: [`counter_mode`](aead_ciphers_base::specs::counter_mode#counter_mode).
 //!
 //! <div id="gcm_tag"></div>
 //!
@@ -80,6 +92,10 @@
 //!     ghash (cipher zero_block) (hashed aad ciphertext) ⊕ cipher (counter_block nonce 1)
 //! ```
 //!
+//! Definitions: [`ghash`](crate::specs::ghash#ghash), [`zero_block`](aead_ciphers_base::specs::bytes#zero_block),
+//! [`hashed`](crate::specs::gcm#hashed), [`⊕`](aead_ciphers_base::specs::bytes#⊕),
+//! [`counter_block`](aead_ciphers_base::specs::counter_mode#counter_block).
+//!
 //! <div id="gcm_sealed"></div>
 //!
 //! ```text
@@ -88,6 +104,8 @@
 //! gcm_sealed cipher nonce aad message =
 //!     let ciphertext = gcm_encrypted cipher nonce message in ciphertext ++ gcm_tag cipher nonce aad ciphertext
 //! ```
+//!
+//! Definitions: [`gcm_encrypted`](crate::specs::gcm#gcm_encrypted), [`gcm_tag`](crate::specs::gcm#gcm_tag).
 //!
 //! <div id="Opens"></div>
 //!
@@ -104,17 +122,24 @@
 //!         then gcm_decrypted cipher nonce ciphertext ++ drop (length ciphertext) old else old)
 //! ```
 //!
+//! Definitions: [`Fits`](crate::specs::gcm#Fits), [`gcm_tag`](crate::specs::gcm#gcm_tag),
+//! [`gcm_decrypted`](crate::specs::gcm#gcm_decrypted).
+//!
 //! <div id="Opened"></div>
 //!
 //! ```text
+//! module _ (cipher : List ℕ → List ℕ) (nonce aad : List ℕ) where
 //!   -- the tag is received separately, and the ciphertext is the buffer from `start` on
 //!   abbrev pub Opened : List ℕ → ℕ → List ℕ → Bool → List ℕ → Type 0
 //!   Opened tag start old accepts new = Opens tag (drop start old) (start ≤ length old) old accepts new
 //! ```
 //!
+//! Definitions: [`Opens`](crate::specs::gcm#Opens).
+//!
 //! <div id="OpenedAttached"></div>
 //!
 //! ```text
+//! module _ (cipher : List ℕ → List ℕ) (nonce aad : List ℕ) where
 //!   -- the tag is the end of the buffer and is unchanged, and the ciphertext is before it, from `start` on; a buffer that is
 //!   -- shorter than a tag, of which n would be 0, is never in range
 //!   abbrev pub OpenedAttached : ℕ → List ℕ → Bool → List ℕ → Type 0
@@ -122,6 +147,8 @@
 //!       let n = length old - tag_len in
 //!       Opens (drop n old) (drop start (take n old)) (start + tag_len ≤ length old) old accepts new
 //! ```
+//!
+//! Definitions: [`tag_len`](crate::specs::gcm#tag_len), [`Opens`](crate::specs::gcm#Opens).
 //!
 //! <div id="sealing_blocks"></div>
 //!
@@ -149,6 +176,10 @@
 //! CanSeal work a n = Fits a n → CanAdd work (sealing_blocks n) (sealing_products a n)
 //! ```
 //!
+//! Definitions: [`Tallies`](aead_ciphers_base::specs::work#Tallies), [`Fits`](crate::specs::gcm#Fits),
+//! [`CanAdd`](aead_ciphers_base::specs::work#CanAdd), [`sealing_blocks`](crate::specs::gcm#sealing_blocks),
+//! [`sealing_products`](crate::specs::gcm#sealing_products).
+//!
 //! <div id="CanOpen"></div>
 //!
 //! ```text
@@ -156,6 +187,8 @@
 //! abbrev pub CanOpen : Tallies → ℕ → ℕ → ℕ → Type 0
 //! CanOpen work a start len = start ≤ len → CanSeal work a (len - start)
 //! ```
+//!
+//! Definitions: [`Tallies`](aead_ciphers_base::specs::work#Tallies), [`CanSeal`](crate::specs::gcm#CanSeal).
 //!
 //! <div id="SealWork"></div>
 //!
@@ -165,6 +198,9 @@
 //!   pub worked : OnOk result (Adds was now (sealing_blocks n) (sealing_products a n))
 //!   pub idle : OnErr result (Adds was now 0 0)
 //! ```
+//!
+//! Definitions: [`Tallies`](aead_ciphers_base::specs::work#Tallies), [`Adds`](aead_ciphers_base::specs::work#Adds),
+//! [`sealing_blocks`](crate::specs::gcm#sealing_blocks), [`sealing_products`](crate::specs::gcm#sealing_products).
 //!
 //! <div id="OpenWork"></div>
 //!
@@ -178,3 +214,7 @@
 //!   pub out_of_range : len < start → Adds was now 0 0
 //!   pub too_long : start ≤ len → ¬ Fits a (len - start) → Adds was now 0 0
 //! ```
+//!
+//! Definitions: [`Tallies`](aead_ciphers_base::specs::work#Tallies), [`Adds`](aead_ciphers_base::specs::work#Adds),
+//! [`sealing_blocks`](crate::specs::gcm#sealing_blocks), [`sealing_products`](crate::specs::gcm#sealing_products),
+//! [`Fits`](crate::specs::gcm#Fits).

@@ -1,7 +1,7 @@
 // Written by tools/rust from crates/aead_ciphers/specs/Ghash.antt. Don't edit.
 //! The product of blocks, and GHASH (SP 800-38D section 6).
 //!
-//! The definitions of `crates/aead_ciphers/specs/Ghash.antt`, which use those of [`byte_field`](aead_ciphers_base::specs::byte_field), [`bytes`](aead_ciphers_base::specs::bytes), [`polynomial`](aead_ciphers_base::specs::polynomial).
+//! The definitions of `crates/aead_ciphers/specs/Ghash.antt` of the repository.
 //!
 //! <div id="IsBlock"></div>
 //!
@@ -29,6 +29,8 @@
 //! block_bits block = flat_map (λ byte. reverse (bits_of 8 byte)) block
 //! ```
 //!
+//! Definitions: [`bits_of`](aead_ciphers_base::specs::byte_field#bits_of).
+//!
 //! <div id="block_of"></div>
 //!
 //! ```text
@@ -36,6 +38,8 @@
 //! unfoldable pub block_of : List Bool → List ℕ
 //! block_of bits = to_be_bytes w128 (value_of (reverse bits))
 //! ```
+//!
+//! Definitions: [`value_of`](aead_ciphers_base::specs::byte_field#value_of).
 //!
 //! <div id="block_taps"></div>
 //!
@@ -54,6 +58,10 @@
 //! x • y = block_of (field_product block_taps 128 (block_bits x) (block_bits y))
 //! ```
 //!
+//! Definitions: [`block_of`](crate::specs::ghash#block_of),
+//! [`field_product`](aead_ciphers_base::specs::polynomial#field_product),
+//! [`block_taps`](crate::specs::ghash#block_taps), [`block_bits`](crate::specs::ghash#block_bits).
+//!
 //! <div id="product_of_test_case_2"></div>
 //!
 //! ```text
@@ -63,6 +71,12 @@
 //! unfolding ◌•◌ block_bits block_of field_product remainder polynomial_product
 //! product_of_test_case_2 = refl
 //! ```
+//!
+//! Definitions: [`•`](crate::specs::ghash#•), [`block_bits`](crate::specs::ghash#block_bits),
+//! [`block_of`](crate::specs::ghash#block_of),
+//! [`field_product`](aead_ciphers_base::specs::polynomial#field_product),
+//! [`remainder`](aead_ciphers_base::specs::polynomial#remainder),
+//! [`polynomial_product`](aead_ciphers_base::specs::polynomial#polynomial_product).
 //!
 //! <div id="unit_block"></div>
 //!
@@ -80,6 +94,8 @@
 //! power h k = iterate (λ p. p • h) (k - 1) h
 //! ```
 //!
+//! Definitions: [`•`](crate::specs::ghash#•).
+//!
 //! <div id="ghash"></div>
 //!
 //! ```text
@@ -89,6 +105,9 @@
 //! ghash h (x ∷ xs) = x • power h (length xs + 1) ⊕ ghash h xs
 //! ```
 //!
+//! Definitions: [`zero_block`](aead_ciphers_base::specs::bytes#zero_block), [`•`](crate::specs::ghash#•),
+//! [`power`](crate::specs::ghash#power), [`⊕`](aead_ciphers_base::specs::bytes#⊕).
+//!
 //! <div id="xor_blocks"></div>
 //!
 //! ```text
@@ -96,3 +115,5 @@
 //! abbrev pub xor_blocks : List (List ℕ) → List (List ℕ) → List (List ℕ)
 //! xor_blocks xs ys = zip2 ◌⊕◌ xs ys
 //! ```
+//!
+//! Definitions: [`⊕`](aead_ciphers_base::specs::bytes#⊕).

@@ -1,7 +1,7 @@
 // Written by tools/rust from crates/aead_ciphers/specs/HashOf.antt. Don't edit.
 //! What a contract says of a GHASH that is computed over a list of blocks.
 //!
-//! The definitions of `crates/aead_ciphers/specs/HashOf.antt`, which use those of [`gcm`](crate::specs::gcm), [`ghash`](crate::specs::ghash).
+//! The definitions of `crates/aead_ciphers/specs/HashOf.antt` of the repository.
 //!
 //! <div id="IsHashOf"></div>
 //!
@@ -11,6 +11,8 @@
 //!   pub sized : AllSized blocks
 //!   pub value : ghash h blocks ≡ xi
 //! ```
+//!
+//! Definitions: [`AllSized`](crate::specs::ghash#AllSized), [`ghash`](crate::specs::ghash#ghash).
 //!
 //! <div id="HashState"></div>
 //!
@@ -32,3 +34,6 @@
 //!   pub hashed : (done : List (List ℕ)) → IsHashOf was.hash_subkey done was.xi
 //!       → IsHashOf was.hash_subkey (done ++ padded_blocks input) now.xi
 //! ```
+//!
+//! Definitions: [`HashState`](crate::specs::hash_of#HashState), [`IsHashOf`](crate::specs::hash_of#IsHashOf),
+//! [`padded_blocks`](crate::specs::gcm#padded_blocks).

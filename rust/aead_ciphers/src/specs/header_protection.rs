@@ -1,7 +1,7 @@
 // Written by tools/rust from crates/aead_ciphers/specs/HeaderProtection.antt. Don't edit.
 //! Header protection of QUIC (RFC 9001 section 5.4).
 //!
-//! The definitions of `crates/aead_ciphers/specs/HeaderProtection.antt`, which use those of [`mask`](aead_ciphers_base::specs::mask).
+//! The definitions of `crates/aead_ciphers/specs/HeaderProtection.antt` of the repository.
 //!
 //! <div id="id_key_len"></div>
 //!
@@ -20,6 +20,8 @@
 //! key_len algorithm = id_key_len algorithm.id
 //! ```
 //!
+//! Definitions: [`id_key_len`](crate::specs::header_protection#id_key_len).
+//!
 //! <div id="id_debug_text"></div>
 //!
 //! ```text
@@ -37,6 +39,8 @@
 //! debug_text algorithm = id_debug_text algorithm.id
 //! ```
 //!
+//! Definitions: [`id_debug_text`](crate::specs::header_protection#id_debug_text).
+//!
 //! <div id="id_mask"></div>
 //!
 //! ```text
@@ -47,6 +51,9 @@
 //! id_mask CHACHA20 key sample = chacha_mask key sample
 //! ```
 //!
+//! Definitions: [`aes_mask`](aead_ciphers_base::specs::mask#aes_mask),
+//! [`chacha_mask`](aead_ciphers_base::specs::mask#chacha_mask).
+//!
 //! <div id="header_protection"></div>
 //!
 //! ```text
@@ -54,6 +61,8 @@
 //! abbrev pub header_protection : Algorithm → List ℕ → List ℕ → List ℕ
 //! header_protection algorithm key sample = id_mask algorithm.id key sample
 //! ```
+//!
+//! Definitions: [`id_mask`](crate::specs::header_protection#id_mask).
 //!
 //! <div id="HeaderKey"></div>
 //!
@@ -73,3 +82,5 @@
 //! header_key (Aes256 key) = record { algorithm = record { id = AES_256 }; bytes = key }
 //! header_key (ChaCha20 key) = record { algorithm = record { id = CHACHA20 }; bytes = key }
 //! ```
+//!
+//! Definitions: [`HeaderKey`](crate::specs::header_protection#HeaderKey).

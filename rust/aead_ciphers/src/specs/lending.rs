@@ -1,7 +1,7 @@
 // Written by tools/rust from crates/aead_ciphers/specs/Lending.antt. Don't edit.
 //! What a call that opens a buffer lends: the plaintext, at the front of the buffer.
 //!
-//! The definitions of `crates/aead_ciphers/specs/Lending.antt`.
+//! The definitions of `crates/aead_ciphers/specs/Lending.antt` of the repository.
 //!
 //! <div id="count_of"></div>
 //!

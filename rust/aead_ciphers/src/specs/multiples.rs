@@ -1,7 +1,7 @@
 // Written by tools/rust from crates/aead_ciphers/specs/Multiples.antt. Don't edit.
 //! The multiples of a hash subkey; a product of blocks is a sum of them (SP 800-38D section 6.3).
 //!
-//! The definitions of `crates/aead_ciphers/specs/Multiples.antt`, which use those of [`ghash`](crate::specs::ghash).
+//! The definitions of `crates/aead_ciphers/specs/Multiples.antt` of the repository.
 //!
 //! <div id="monomial_block"></div>
 //!
@@ -10,6 +10,8 @@
 //! abbrev pub monomial_block : ℕ → List ℕ
 //! monomial_block k = block_of (replicate k false ++ true ∷ replicate (127 - k) false)
 //! ```
+//!
+//! Definitions: [`block_of`](crate::specs::ghash#block_of).
 //!
 //! <div id="number_of_words"></div>
 //!
@@ -36,6 +38,9 @@
 //! entry table k = number_of_words (map (λ word. slice_index table (128 * word + place k)) (0 ∷ 1 ∷ 2 ∷ 3 ∷ []))
 //! ```
 //!
+//! Definitions: [`number_of_words`](crate::specs::multiples#number_of_words),
+//! [`place`](crate::specs::multiples#place).
+//!
 //! <div id="AreMultiples"></div>
 //!
 //! ```text
@@ -43,3 +48,6 @@
 //! abbrev pub AreMultiples : List ℕ → List ℕ → Type 0
 //! AreMultiples h table = (k : ℕ) → k < 128 → to_be_bytes w128 (entry table k) ≡ monomial_block k • h
 //! ```
+//!
+//! Definitions: [`entry`](crate::specs::multiples#entry),
+//! [`monomial_block`](crate::specs::multiples#monomial_block), [`•`](crate::specs::ghash#•).

@@ -1,7 +1,7 @@
 // Written by tools/rust from crates/aead_ciphers/specs/NonceSequence.antt. Don't edit.
 //! What a call does to a nonce sequence: its list of used nonces, and whether it is closed, before and after.
 //!
-//! The definitions of `crates/aead_ciphers/specs/NonceSequence.antt`.
+//! The definitions of `crates/aead_ciphers/specs/NonceSequence.antt` of the repository.
 //!
 //! <div id="Appends"></div>
 //!

@@ -1,7 +1,7 @@
 // Written by tools/rust from crates/aead_ciphers/specs/Packet.antt. Don't edit.
 //! A packet that is sealed or opened in place: a header, then the plaintext or ciphertext, then the tag or room for it.
 //!
-//! The definitions of `crates/aead_ciphers/specs/Packet.antt`, which use those of [`gcm`](crate::specs::gcm), [`aes`](aead_ciphers_base::specs::aes).
+//! The definitions of `crates/aead_ciphers/specs/Packet.antt` of the repository.
 //!
 //! <div id="PacketFits"></div>
 //!
@@ -12,6 +12,8 @@
 //!   pub lengths : Fits h (n - tag_len - h)
 //! ```
 //!
+//! Definitions: [`tag_len`](crate::specs::gcm#tag_len), [`Fits`](crate::specs::gcm#Fits).
+//!
 //! <div id="packet_message"></div>
 //!
 //! ```text
@@ -20,6 +22,8 @@
 //! packet_message h packet = take (length packet - tag_len - h) (drop h packet)
 //! ```
 //!
+//! Definitions: [`tag_len`](crate::specs::gcm#tag_len).
+//!
 //! <div id="sealed_packet"></div>
 //!
 //! ```text
@@ -27,6 +31,9 @@
 //! abbrev pub sealed_packet : (key nonce : List ℕ) → ℕ → List ℕ → List ℕ
 //! sealed_packet key nonce h packet = take h packet ++ gcm_sealed (aes key) nonce (take h packet) (packet_message h packet)
 //! ```
+//!
+//! Definitions: [`gcm_sealed`](crate::specs::gcm#gcm_sealed), [`aes`](aead_ciphers_base::specs::aes#aes),
+//! [`packet_message`](crate::specs::packet#packet_message).
 //!
 //! <div id="OpenedPacket"></div>
 //!
@@ -37,3 +44,5 @@
 //!   pub header : take h new ≡ take h old
 //!   pub body : OpenedAttached (aes key) nonce (take h old) 0 (drop h old) accepts (drop h new)
 //! ```
+//!
+//! Definitions: [`OpenedAttached`](crate::specs::gcm#OpenedAttached), [`aes`](aead_ciphers_base::specs::aes#aes).

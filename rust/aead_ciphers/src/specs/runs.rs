@@ -1,7 +1,7 @@
 // Written by tools/rust from crates/aead_ciphers/specs/Runs.antt. Don't edit.
 //! Runs, which take one step for each item of a list, in order.
 //!
-//! The definitions of `crates/aead_ciphers/specs/Runs.antt`, which use those of [`bound_state`](crate::specs::bound_state), [`gcm`](crate::specs::gcm), [`steps`](crate::specs::steps).
+//! The definitions of `crates/aead_ciphers/specs/Runs.antt` of the repository.
 //!
 //! <div id="Runs"></div>
 //!
@@ -34,12 +34,20 @@
 //!       × (new.outcome ≡ (if accepts then Opened (length old.buffer.items - tag_len - start) else Refused)))
 //! ```
 //!
+//! Definitions: [`BoundState`](crate::specs::bound_state#BoundState), [`Keeps`](crate::specs::bound_state#Keeps),
+//! [`SealStep`](crate::specs::steps#SealStep), [`tag_len`](crate::specs::gcm#tag_len),
+//! [`OpenStep`](crate::specs::steps#OpenStep).
+//!
 //! <div id="JobStep"></div>
 //!
 //! ```text
+//! module _ {S O : Type 0} (s_spent : S → List (List ℕ)) (s_closed : S → Bool) (s_origin : S → List ℕ)
+//!     (o_spent : O → List (List ℕ)) (o_closed : O → Bool) (o_origin : O → List ℕ) where
 //!   -- one job; its operation and its AAD are unchanged
 //!   pub record JobStep (was now : BoundState S × BoundState O) (old new : Job) : Type 0 where
 //!     pub operation_kept : new.operation ≡ old.operation
 //!     pub aad_kept : new.aad ≡ old.aad
 //!     pub performs : Performs old.operation was now old new
 //! ```
+//!
+//! Definitions: [`BoundState`](crate::specs::bound_state#BoundState), [`Performs`](crate::specs::runs#Performs).

@@ -30,6 +30,13 @@ pub trait RoundKeyPlanes<P: Plane> {
     fn planes(&self) -> [P; 8];
 }
 
+/// <details><summary>Ghost items</summary>
+///
+/// ```text
+/// ghost held = { λ key. key };
+/// ```
+///
+/// </details>
 impl RoundKeyPlanes<u64> for [u64; 8] {
     #[inline(always)]
     fn planes(&self) -> [u64; 8] {

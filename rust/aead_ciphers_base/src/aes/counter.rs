@@ -5,6 +5,15 @@ use crate::aes::{BLOCK_LEN, Block};
 use crate::values::{NONCE_LEN, Nonce};
 
 /// A counter block: a nonce of 12 bytes, and a number modulo 2^32 in four big-endian bytes.
+///
+/// <details><summary>Model</summary>
+///
+/// ```text
+/// ghost Value = { List ℕ };
+/// ghost view = { λ counter. counter.block };
+/// ```
+///
+/// </details>
 pub struct Counter {
     block: Block,
 }
@@ -116,11 +125,29 @@ impl Counter {
 }
 
 /// A counter block of 16 bytes that is used only once.
+///
+/// <details><summary>Model</summary>
+///
+/// ```text
+/// ghost Value = { List ℕ };
+/// ghost view = { λ iv. iv.block };
+/// ```
+///
+/// </details>
 pub struct Iv {
     block: Block,
 }
 
 /// Consumes a counter, and returns its counter block.
+///
+/// <details><summary>Ghost items</summary>
+///
+/// ```text
+/// // What holds of the argument of `from` and of what it returns.
+/// ghost from_gives = { λ counter iv. iv ≡ counter };
+/// ```
+///
+/// </details>
 impl From<Counter> for Iv {
     #[inline(always)]
     fn from(counter: Counter) -> Self {

@@ -78,6 +78,17 @@ pub trait Plane: Copy + BitXor<Self, Output = Self> + BitAnd<Self, Output = Self
     fn two_below(self) -> Self;
 }
 
+/// <details><summary>Ghost items</summary>
+///
+/// ```text
+/// ghost number = { λ n. n };
+/// ghost width = { 64 };
+/// ghost place = { place_of_four };
+/// ```
+///
+/// Definitions: [`place_of_four`](crate::specs::planes#place_of_four).
+///
+/// </details>
 impl Plane for u64 {
     #[inline(always)]
     fn ones() -> u64 {

@@ -24,6 +24,17 @@
 /// assert_eq!(work.products(), 3); // two of the ciphertext, and one of the lengths
 /// # Ok::<(), Unspecified>(())
 /// ```
+///
+/// <details><summary>Model</summary>
+///
+/// ```text
+/// ghost Value = { Tallies };
+/// ghost view = { λ work. record { blocks = work.blocks; products = work.products } };
+/// ```
+///
+/// Definitions: [`Tallies`](crate::specs::work#Tallies).
+///
+/// </details>
 pub struct Work {
     blocks: u64,
     products: u64,

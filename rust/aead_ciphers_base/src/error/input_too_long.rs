@@ -5,6 +5,15 @@ use core::error::Error;
 use core::fmt;
 
 /// The error returned when an input is longer than the call allows.
+///
+/// <details><summary>Model</summary>
+///
+/// ```text
+/// ghost Value = { T };
+/// ghost view = { λ e. e.0 };
+/// ```
+///
+/// </details>
 #[derive(Clone, Copy, PartialEq, Eq, Debug)]
 pub struct InputTooLongError<T = usize>(T);
 
@@ -38,6 +47,15 @@ impl<T> InputTooLongError<T> {
 }
 
 /// Displays as `input too long`.
+///
+/// <details><summary>Ghost items</summary>
+///
+/// ```text
+/// // `Some` of what `{}` prints.
+/// ghost output = { λ _. Some (codes "input too long") };
+/// ```
+///
+/// </details>
 impl<T> fmt::Display for InputTooLongError<T> {
     fn fmt(&self, f: &mut fmt::Formatter<'_>) -> fmt::Result {
         f.write_str("input too long")

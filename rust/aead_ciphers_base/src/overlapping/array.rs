@@ -5,6 +5,17 @@ use super::Overlapping;
 use crate::error::LenMismatchError;
 
 /// An overlapping buffer whose input has exactly `N` items. `N` is not zero.
+///
+/// <details><summary>Invariant</summary>
+///
+/// ```text
+/// pub ghost some: { 0 < N }
+/// pub ghost exact: { input_len in_out ≡ N }
+/// ```
+///
+/// Definitions: [`input_len`](crate::specs::overlapping#input_len).
+///
+/// </details>
 pub struct Array<'o, T, const N: usize> {
     /// The whole buffer.
     pub in_out: Overlapping<'o, T>,

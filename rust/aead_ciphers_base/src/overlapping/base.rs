@@ -19,6 +19,14 @@ use core::ops::RangeFrom;
 /// assert_eq!(items, [3, 4, 5, 6, 5, 6]);
 /// # Ok::<(), IndexError>(())
 /// ```
+///
+/// <details><summary>Invariant</summary>
+///
+/// ```text
+/// pub ghost within: { start ≤ length in_out.now }
+/// ```
+///
+/// </details>
 pub struct Overlapping<'o, T> {
     /// The whole slice.
     pub in_out: &'o mut [T],
@@ -27,6 +35,16 @@ pub struct Overlapping<'o, T> {
 }
 
 /// Creates a buffer whose input is the whole slice.
+///
+/// <details><summary>Ghost items</summary>
+///
+/// ```text
+/// // What holds of the argument of `from` and of what it returns.
+/// ghost from_gives = { λ s o.
+///     (o.in_out.ghost_name ≡ s.ghost_name) × (o.in_out.now ≡ s.now) × (o.start ≡ 0) };
+/// ```
+///
+/// </details>
 impl<'o, T> From<&'o mut [T]> for Overlapping<'o, T> {
     #[inline(always)]
     fn from(in_out: &'o mut [T]) -> Self {
@@ -259,6 +277,8 @@ impl<'o, T> Overlapping<'o, T> {
 }
 
 /// A buffer, and the number of items in a chunk.
+// Invariant:
+// ghost within: { start ≤ length in_out.now }
 struct FirstMapped<'o, T> {
     in_out: &'o mut [T],
     start: usize,

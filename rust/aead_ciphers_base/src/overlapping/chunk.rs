@@ -51,6 +51,14 @@ pub trait Chunk<T>: Sized {
     fn put(self, to: &mut [T]);
 }
 
+/// <details><summary>Ghost items</summary>
+///
+/// ```text
+/// ghost chunk_items = { λ xs. xs };
+/// ghost chunk_len = { N };
+/// ```
+///
+/// </details>
 impl<T, const N: usize> Chunk<T> for [T; N] {
     #[inline(always)]
     fn chunk_len() -> usize {

@@ -11,6 +11,15 @@ fn too_long(len: usize) -> InputTooLongError {
 }
 
 /// An overlapping buffer whose input has fewer than `BLOCK_LEN` items.
+///
+/// <details><summary>Invariant</summary>
+///
+/// ```text
+/// pub ghost within: { start ≤ length in_out.now }
+/// pub ghost short: { length in_out.now - start < BLOCK_LEN }
+/// ```
+///
+/// </details>
 pub struct PartialBlock<'i, T, const BLOCK_LEN: usize> {
     /// The whole slice.
     pub in_out: &'i mut [T],

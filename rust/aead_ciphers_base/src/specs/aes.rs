@@ -1,7 +1,7 @@
 // Written by tools/rust from crates/aead_ciphers_base/specs/Aes.antt. Don't edit.
 //! The cipher AES and its key schedule (FIPS 197).
 //!
-//! The definitions of `crates/aead_ciphers_base/specs/Aes.antt`, which use those of [`byte_field`](crate::specs::byte_field), [`bytes`](crate::specs::bytes).
+//! The definitions of `crates/aead_ciphers_base/specs/Aes.antt` of the repository.
 //!
 //! <div id="⊻"></div>
 //!
@@ -28,6 +28,8 @@
 //! state f = each_below 16 (λ k. f (k % 4) (k / 4))
 //! ```
 //!
+//! Definitions: [`each_below`](crate::specs::bytes#each_below).
+//!
 //! <div id="sub_bytes"></div>
 //!
 //! ```text
@@ -36,6 +38,9 @@
 //! sub_bytes s = state (λ r c. sbox (at s r c))
 //! ```
 //!
+//! Definitions: [`state`](crate::specs::aes#state), [`sbox`](crate::specs::byte_field#sbox),
+//! [`at`](crate::specs::aes#at).
+//!
 //! <div id="shift_rows"></div>
 //!
 //! ```text
@@ -43,6 +48,8 @@
 //! unfoldable pub shift_rows : List ℕ → List ℕ
 //! shift_rows s = state (λ r c. at s r ((c + r) % 4))
 //! ```
+//!
+//! Definitions: [`state`](crate::specs::aes#state), [`at`](crate::specs::aes#at).
 //!
 //! <div id="mixed"></div>
 //!
@@ -53,6 +60,8 @@
 //! mixed a b c d = mul8 2 a ⊻ mul8 3 b ⊻ c ⊻ d
 //! ```
 //!
+//! Definitions: [`mul8`](crate::specs::byte_field#mul8), [`⊻`](crate::specs::aes#⊻).
+//!
 //! <div id="mix_columns"></div>
 //!
 //! ```text
@@ -60,6 +69,9 @@
 //! unfoldable pub mix_columns : List ℕ → List ℕ
 //! mix_columns s = state (λ r c. mixed (at s r c) (at s ((r + 1) % 4) c) (at s ((r + 2) % 4) c) (at s ((r + 3) % 4) c))
 //! ```
+//!
+//! Definitions: [`state`](crate::specs::aes#state), [`mixed`](crate::specs::aes#mixed),
+//! [`at`](crate::specs::aes#at).
 //!
 //! <div id="word_at"></div>
 //!
@@ -77,6 +89,8 @@
 //! rot_word a = each_below 4 (λ k. slice_index a ((k + 1) % 4))
 //! ```
 //!
+//! Definitions: [`each_below`](crate::specs::bytes#each_below).
+//!
 //! <div id="sub_word"></div>
 //!
 //! ```text
@@ -85,6 +99,8 @@
 //! sub_word a = each_below 4 (λ k. sbox (slice_index a k))
 //! ```
 //!
+//! Definitions: [`each_below`](crate::specs::bytes#each_below), [`sbox`](crate::specs::byte_field#sbox).
+//!
 //! <div id="power_of_x"></div>
 //!
 //! ```text
@@ -92,6 +108,8 @@
 //! unfoldable pub power_of_x : ℕ → ℕ
 //! power_of_x n = iterate (mul8 2) n 1
 //! ```
+//!
+//! Definitions: [`mul8`](crate::specs::byte_field#mul8).
 //!
 //! <div id="next_word"></div>
 //!
@@ -106,6 +124,10 @@
 //!     else (if nat_lt 6 nk && (i % nk == 4) then sub_word t else t))
 //! ```
 //!
+//! Definitions: [`word_at`](crate::specs::aes#word_at), [`⊕`](crate::specs::bytes#⊕),
+//! [`sub_word`](crate::specs::aes#sub_word), [`rot_word`](crate::specs::aes#rot_word),
+//! [`power_of_x`](crate::specs::aes#power_of_x).
+//!
 //! <div id="key_words"></div>
 //!
 //! ```text
@@ -115,6 +137,8 @@
 //! key_words nk key (suc n) = let w = key_words nk key n in w ++ next_word nk w (nk + n) ∷ []
 //! ```
 //!
+//! Definitions: [`each_below`](crate::specs::bytes#each_below), [`next_word`](crate::specs::aes#next_word).
+//!
 //! <div id="add_round_key"></div>
 //!
 //! ```text
@@ -122,6 +146,9 @@
 //! unfoldable pub add_round_key : List (List ℕ) → ℕ → List ℕ → List ℕ
 //! add_round_key w j s = state (λ r c. at s r c ⊻ slice_index (word_at w (4 * j + c)) r)
 //! ```
+//!
+//! Definitions: [`state`](crate::specs::aes#state), [`at`](crate::specs::aes#at), [`⊻`](crate::specs::aes#⊻),
+//! [`word_at`](crate::specs::aes#word_at).
 //!
 //! <div id="rounds"></div>
 //!
@@ -132,6 +159,9 @@
 //! rounds w b (suc n) = add_round_key w (suc n) (mix_columns (shift_rows (sub_bytes (rounds w b n))))
 //! ```
 //!
+//! Definitions: [`add_round_key`](crate::specs::aes#add_round_key), [`mix_columns`](crate::specs::aes#mix_columns),
+//! [`shift_rows`](crate::specs::aes#shift_rows), [`sub_bytes`](crate::specs::aes#sub_bytes).
+//!
 //! <div id="cipher"></div>
 //!
 //! ```text
@@ -139,6 +169,9 @@
 //! unfoldable pub cipher : List (List ℕ) → ℕ → List ℕ → List ℕ
 //! cipher w nr b = add_round_key w nr (shift_rows (sub_bytes (rounds w b (nr - 1))))
 //! ```
+//!
+//! Definitions: [`add_round_key`](crate::specs::aes#add_round_key), [`shift_rows`](crate::specs::aes#shift_rows),
+//! [`sub_bytes`](crate::specs::aes#sub_bytes), [`rounds`](crate::specs::aes#rounds).
 //!
 //! <div id="aes"></div>
 //!
@@ -152,6 +185,8 @@
 //!     cipher (key_words nk key (4 * (nr + 1) - nk)) nr b
 //! ```
 //!
+//! Definitions: [`cipher`](crate::specs::aes#cipher), [`key_words`](crate::specs::aes#key_words).
+//!
 //! <div id="length_aes"></div>
 //!
 //! ```text
@@ -160,3 +195,6 @@
 //! unfolding aes cipher add_round_key
 //! length_aes key b = refl
 //! ```
+//!
+//! Definitions: [`aes`](crate::specs::aes#aes), [`cipher`](crate::specs::aes#cipher),
+//! [`add_round_key`](crate::specs::aes#add_round_key).

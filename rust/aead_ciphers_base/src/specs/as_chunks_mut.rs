@@ -1,7 +1,7 @@
 // Written by tools/rust from crates/aead_ciphers_base/specs/AsChunksMut.antt. Don't edit.
 //! Lending the items of a mutable view. The final value of a mutable reference is what it points to when its borrow ends.
 //!
-//! The definitions of `crates/aead_ciphers_base/specs/AsChunksMut.antt`.
+//! The definitions of `crates/aead_ciphers_base/specs/AsChunksMut.antt` of the repository.
 //!
 //! <div id="with_items"></div>
 //!
@@ -22,6 +22,8 @@
 //! LendsItems T N v r = Lends (the_row (record { mir = named 1; lft = [] }) T N) (Array T 0) v r (with_items v.now)
 //! ```
 //!
+//! Definitions: [`with_items`](crate::specs::as_chunks_mut#with_items).
+//!
 //! <div id="LendsParts"></div>
 //!
 //! ```text
@@ -31,6 +33,8 @@
 //!     (λ front back. with_items v.now (front ++ back))
 //! ```
 //!
+//! Definitions: [`with_items`](crate::specs::as_chunks_mut#with_items).
+//!
 //! <div id="KeepsCount"></div>
 //!
 //! ```text
@@ -38,3 +42,5 @@
 //! abbrev pub KeepsCount : (T N : RattleType) → MutBor (AsChunksMut T.Denot (value_of N)) → Fml
 //! KeepsCount T N v = fex GName (λ loan. follows (the_row (record { mir = named 1; lft = [] }) T N) (Array T 0) v.ghost_name loan (with_items v.now))
 //! ```
+//!
+//! Definitions: [`with_items`](crate::specs::as_chunks_mut#with_items).

@@ -1,7 +1,7 @@
 // Written by tools/rust from crates/aead_ciphers_base/specs/Blocks.antt. Don't edit.
 //! Lists as whole blocks.
 //!
-//! The definitions of `crates/aead_ciphers_base/specs/Blocks.antt`.
+//! The definitions of `crates/aead_ciphers_base/specs/Blocks.antt` of the repository.
 //!
 //! <div id="blocks"></div>
 //!

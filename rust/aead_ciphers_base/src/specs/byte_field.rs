@@ -1,7 +1,7 @@
 // Written by tools/rust from crates/aead_ciphers_base/specs/ByteField.antt. Don't edit.
 //! Bytes as elements of GF(2^8), and the S-box (FIPS 197 sections 4 and 5.1.1).
 //!
-//! The definitions of `crates/aead_ciphers_base/specs/ByteField.antt`, which use those of [`bytes`](crate::specs::bytes), [`polynomial`](crate::specs::polynomial).
+//! The definitions of `crates/aead_ciphers_base/specs/ByteField.antt` of the repository.
 //!
 //! <div id="bits_of"></div>
 //!
@@ -30,6 +30,9 @@
 //! mul8 x y = value_of (field_product (0 ∷ 1 ∷ 3 ∷ 4 ∷ []) 8 (bits_of 8 x) (bits_of 8 y))
 //! ```
 //!
+//! Definitions: [`value_of`](crate::specs::byte_field#value_of),
+//! [`field_product`](crate::specs::polynomial#field_product), [`bits_of`](crate::specs::byte_field#bits_of).
+//!
 //! <div id="product_of_57_and_83"></div>
 //!
 //! ```text
@@ -39,6 +42,10 @@
 //! product_of_57_and_83 = refl
 //! ```
 //!
+//! Definitions: [`mul8`](crate::specs::byte_field#mul8), [`field_product`](crate::specs::polynomial#field_product),
+//! [`remainder`](crate::specs::polynomial#remainder),
+//! [`polynomial_product`](crate::specs::polynomial#polynomial_product).
+//!
 //! <div id="inv"></div>
 //!
 //! ```text
@@ -46,6 +53,8 @@
 //! unfoldable pub inv : ℕ → ℕ
 //! inv x = unwrap_or (find (λ y. mul8 x y == 1) (range_with_len 0 256)) 0
 //! ```
+//!
+//! Definitions: [`mul8`](crate::specs::byte_field#mul8).
 //!
 //! <div id="affine_bit"></div>
 //!
@@ -58,6 +67,8 @@
 //!     xor coefficient b ((i + 6) % 8) xor coefficient b ((i + 7) % 8) xor coefficient c i
 //! ```
 //!
+//! Definitions: [`coefficient`](crate::specs::polynomial#coefficient), [`xor`](crate::specs::polynomial#xor).
+//!
 //! <div id="affine"></div>
 //!
 //! ```text
@@ -66,6 +77,9 @@
 //! affine x = value_of (each_below 8 (affine_bit (bits_of 8 x) (bits_of 8 0x63)))
 //! ```
 //!
+//! Definitions: [`value_of`](crate::specs::byte_field#value_of), [`each_below`](crate::specs::bytes#each_below),
+//! [`affine_bit`](crate::specs::byte_field#affine_bit), [`bits_of`](crate::specs::byte_field#bits_of).
+//!
 //! <div id="sbox"></div>
 //!
 //! ```text
@@ -73,3 +87,5 @@
 //! unfoldable pub sbox : ℕ → ℕ
 //! sbox x = affine (inv x)
 //! ```
+//!
+//! Definitions: [`affine`](crate::specs::byte_field#affine), [`inv`](crate::specs::byte_field#inv).

@@ -1,7 +1,7 @@
 // Written by tools/rust from crates/aead_ciphers_base/specs/Bytes.antt. Don't edit.
 //! Lists of bytes.
 //!
-//! The definitions of `crates/aead_ciphers_base/specs/Bytes.antt`.
+//! The definitions of `crates/aead_ciphers_base/specs/Bytes.antt` of the repository.
 //!
 //! <div id="each_below"></div>
 //!
@@ -27,6 +27,8 @@
 //! unfoldable pub xored : (ℕ → ℕ) → List ℕ → List ℕ
 //! xored stream text = text ⊕ each_below (length text) stream
 //! ```
+//!
+//! Definitions: [`⊕`](crate::specs::bytes#⊕), [`each_below`](crate::specs::bytes#each_below).
 //!
 //! <div id="zero_block"></div>
 //!

@@ -2,7 +2,7 @@
 //! ChaCha20 (RFC 8439). A word is a number below 2 ^ 32, and a state is a list of 16 words. Keys, nonces, blocks,
 //! keystreams and messages are lists of bytes.
 //!
-//! The definitions of `crates/aead_ciphers_base/specs/ChaCha20.antt`, which use those of [`bytes`](crate::specs::bytes).
+//! The definitions of `crates/aead_ciphers_base/specs/ChaCha20.antt` of the repository.
 //!
 //! <div id="add32"></div>
 //!
@@ -37,6 +37,8 @@
 //!     (a2, b2, c2, d2)
 //! ```
 //!
+//! Definitions: [`add32`](crate::specs::cha_cha20#add32), [`xor_rotate`](crate::specs::cha_cha20#xor_rotate).
+//!
 //! <div id="quarter_round_at"></div>
 //!
 //! ```text
@@ -46,6 +48,8 @@
 //!     let q = quarter_round (slice_index s p.0) (slice_index s p.1) (slice_index s p.2) (slice_index s p.3) in
 //!     slice_set (slice_set (slice_set (slice_set s p.0 q.0) p.1 q.1) p.2 q.2) p.3 q.3
 //! ```
+//!
+//! Definitions: [`quarter_round`](crate::specs::cha_cha20#quarter_round).
 //!
 //! <div id="double_round"></div>
 //!
@@ -57,6 +61,8 @@
 //!     ((0, 4, 8, 12) ∷ (1, 5, 9, 13) ∷ (2, 6, 10, 14) ∷ (3, 7, 11, 15)
 //!     ∷ (0, 5, 10, 15) ∷ (1, 6, 11, 12) ∷ (2, 7, 8, 13) ∷ (3, 4, 9, 14) ∷ [])
 //! ```
+//!
+//! Definitions: [`quarter_round_at`](crate::specs::cha_cha20#quarter_round_at).
 //!
 //! <div id="le_words"></div>
 //!
@@ -84,6 +90,8 @@
 //!     0x61707865 ∷ 0x3320646e ∷ 0x79622d32 ∷ 0x6b206574 ∷ le_words key ++ counter ∷ le_words nonce
 //! ```
 //!
+//! Definitions: [`le_words`](crate::specs::cha_cha20#le_words).
+//!
 //! <div id="state_block"></div>
 //!
 //! ```text
@@ -93,6 +101,9 @@
 //! state_block s = le_bytes (zip2 add32 (iterate double_round 10 s) s)
 //! ```
 //!
+//! Definitions: [`le_bytes`](crate::specs::cha_cha20#le_bytes), [`add32`](crate::specs::cha_cha20#add32),
+//! [`double_round`](crate::specs::cha_cha20#double_round).
+//!
 //! <div id="chacha20_block"></div>
 //!
 //! ```text
@@ -100,6 +111,9 @@
 //! unfoldable pub chacha20_block : List ℕ → ℕ → List ℕ → List ℕ
 //! chacha20_block key counter nonce = state_block (initial_state key counter nonce)
 //! ```
+//!
+//! Definitions: [`state_block`](crate::specs::cha_cha20#state_block),
+//! [`initial_state`](crate::specs::cha_cha20#initial_state).
 //!
 //! <div id="stream_byte"></div>
 //!
@@ -109,6 +123,8 @@
 //! stream_byte key counter nonce i = slice_index (chacha20_block key (counter + i / 64) nonce) (i % 64)
 //! ```
 //!
+//! Definitions: [`chacha20_block`](crate::specs::cha_cha20#chacha20_block).
+//!
 //! <div id="chacha20_encrypted"></div>
 //!
 //! ```text
@@ -116,6 +132,8 @@
 //! unfoldable pub chacha20_encrypted : List ℕ → ℕ → List ℕ → List ℕ → List ℕ
 //! chacha20_encrypted key counter nonce message = xored (stream_byte key counter nonce) message
 //! ```
+//!
+//! Definitions: [`xored`](crate::specs::bytes#xored), [`stream_byte`](crate::specs::cha_cha20#stream_byte).
 //!
 //! <div id="Position"></div>
 //!

@@ -1,7 +1,7 @@
 // Written by tools/rust from crates/aead_ciphers_base/specs/ChunksMut.antt. Don't edit.
 //! Dividing a mutable slice into parts. The final value of a mutable reference is what it points to when its borrow ends.
 //!
-//! The definitions of `crates/aead_ciphers_base/specs/ChunksMut.antt`.
+//! The definitions of `crates/aead_ciphers_base/specs/ChunksMut.antt` of the repository.
 //!
 //! <div id="LendsInTwo"></div>
 //!

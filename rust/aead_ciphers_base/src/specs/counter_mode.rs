@@ -1,7 +1,7 @@
 // Written by tools/rust from crates/aead_ciphers_base/specs/CounterMode.antt. Don't edit.
 //! Counter mode over a block cipher (SP 800-38D section 6.5).
 //!
-//! The definitions of `crates/aead_ciphers_base/specs/CounterMode.antt`, which use those of [`bytes`](crate::specs::bytes).
+//! The definitions of `crates/aead_ciphers_base/specs/CounterMode.antt` of the repository.
 //!
 //! <div id="counter_block"></div>
 //!
@@ -20,6 +20,8 @@
 //! counter_byte cipher nonce k i = slice_index (cipher (counter_block nonce (k + i / 16))) (i % 16)
 //! ```
 //!
+//! Definitions: [`counter_block`](crate::specs::counter_mode#counter_block).
+//!
 //! <div id="counter_mode"></div>
 //!
 //! ```text
@@ -27,6 +29,8 @@
 //! unfoldable pub counter_mode : (List ℕ → List ℕ) → List ℕ → ℕ → List ℕ → List ℕ
 //! counter_mode cipher nonce k text = xored (counter_byte cipher nonce k) text
 //! ```
+//!
+//! Definitions: [`xored`](crate::specs::bytes#xored), [`counter_byte`](crate::specs::counter_mode#counter_byte).
 //!
 //! <div id="IsCounter"></div>
 //!
@@ -37,6 +41,8 @@
 //!   pub value : block ≡ counter_block nonce k
 //! ```
 //!
+//! Definitions: [`counter_block`](crate::specs::counter_mode#counter_block).
+//!
 //! <div id="Advances"></div>
 //!
 //! ```text
@@ -45,6 +51,8 @@
 //! abbrev pub Advances : List ℕ → List ℕ → ℕ → Type 0
 //! Advances was now n = (nonce : List ℕ) (k : ℕ) → IsCounter was nonce k → IsCounter now nonce (k + n)
 //! ```
+//!
+//! Definitions: [`IsCounter`](crate::specs::counter_mode#IsCounter).
 //!
 //! <div id="InCounterMode"></div>
 //!
@@ -55,6 +63,9 @@
 //!     (nonce : List ℕ) (k : ℕ) → IsCounter counter nonce k → Says (counter_mode cipher nonce k text)
 //! ```
 //!
+//! Definitions: [`IsCounter`](crate::specs::counter_mode#IsCounter),
+//! [`counter_mode`](crate::specs::counter_mode#counter_mode).
+//!
 //! <div id="EncryptsToFront"></div>
 //!
 //! ```text
@@ -63,3 +74,5 @@
 //! EncryptsToFront cipher counter start old new =
 //!     InCounterMode cipher counter (drop start old) (λ text. new ≡ text ++ drop (length old - start) old)
 //! ```
+//!
+//! Definitions: [`InCounterMode`](crate::specs::counter_mode#InCounterMode).

@@ -1,7 +1,7 @@
 // Written by tools/rust from crates/aead_ciphers_base/specs/KeyBytes.antt. Don't edit.
 //! The bytes of an AES key, of either length.
 //!
-//! The definitions of `crates/aead_ciphers_base/specs/KeyBytes.antt`.
+//! The definitions of `crates/aead_ciphers_base/specs/KeyBytes.antt` of the repository.
 //!
 //! <div id="key_bytes"></div>
 //!

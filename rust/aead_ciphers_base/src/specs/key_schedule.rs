@@ -1,7 +1,7 @@
 // Written by tools/rust from crates/aead_ciphers_base/specs/KeySchedule.antt. Don't edit.
 //! Round keys as planes (FIPS 197 section 5.2).
 //!
-//! The definitions of `crates/aead_ciphers_base/specs/KeySchedule.antt`, which use those of [`aes`](crate::specs::aes), [`bytes`](crate::specs::bytes), [`planes`](crate::specs::planes).
+//! The definitions of `crates/aead_ciphers_base/specs/KeySchedule.antt` of the repository.
 //!
 //! <div id="HoldsWords"></div>
 //!
@@ -12,6 +12,8 @@
 //!     → plane_byte (slice_index_or round_keys j []) p ≡ slice_index (word_at words (4 * j + p % 16 / 4)) (p % 4)
 //! ```
 //!
+//! Definitions: [`plane_byte`](crate::specs::planes#plane_byte), [`word_at`](crate::specs::aes#word_at).
+//!
 //! <div id="key_of"></div>
 //!
 //! ```text
@@ -20,6 +22,8 @@
 //! key_of round_keys rounds =
 //!     each_below (4 * (rounds - 6)) (λ j. plane_byte (slice_index_or round_keys (j / 16) []) (j % 16))
 //! ```
+//!
+//! Definitions: [`each_below`](crate::specs::bytes#each_below), [`plane_byte`](crate::specs::planes#plane_byte).
 //!
 //! <div id="IsSchedule"></div>
 //!
@@ -31,3 +35,6 @@
 //!   pub expanded : let nk = rounds - 6 in
 //!       HoldsWords round_keys (key_words nk (key_of round_keys rounds) (4 * (rounds + 1) - nk)) (rounds + 1)
 //! ```
+//!
+//! Definitions: [`HoldsWords`](crate::specs::key_schedule#HoldsWords), [`key_words`](crate::specs::aes#key_words),
+//! [`key_of`](crate::specs::key_schedule#key_of).

@@ -1,7 +1,7 @@
 // Written by tools/rust from crates/aead_ciphers_base/specs/Mask.antt. Don't edit.
 //! The header protection masks of QUIC (RFC 9001).
 //!
-//! The definitions of `crates/aead_ciphers_base/specs/Mask.antt`, which use those of [`aes`](crate::specs::aes), [`cha_cha20`](crate::specs::cha_cha20).
+//! The definitions of `crates/aead_ciphers_base/specs/Mask.antt` of the repository.
 //!
 //! <div id="aes_mask"></div>
 //!
@@ -10,6 +10,8 @@
 //! unfoldable pub aes_mask : List ℕ → List ℕ → List ℕ
 //! aes_mask key sample = take 5 (aes key sample)
 //! ```
+//!
+//! Definitions: [`aes`](crate::specs::aes#aes).
 //!
 //! <div id="chacha_mask"></div>
 //!
@@ -20,3 +22,5 @@
 //! chacha_mask key sample =
 //!     take 5 (chacha20_block key (from_le_bytes w32 (take 4 sample)) (drop 4 sample))
 //! ```
+//!
+//! Definitions: [`chacha20_block`](crate::specs::cha_cha20#chacha20_block).

@@ -2,7 +2,7 @@
 //! Overlapping buffers: lending the front of a slice, and mapping its chunks. The final value of a mutable reference is
 //! what it points to when its borrow ends.
 //!
-//! The definitions of `crates/aead_ciphers_base/specs/Overlapping.antt`.
+//! The definitions of `crates/aead_ciphers_base/specs/Overlapping.antt` of the repository.
 //!
 //! <div id="input_of"></div>
 //!
@@ -27,6 +27,8 @@
 //! abbrev pub after_output : {T : Type 0} → Overlapping T → List T
 //! after_output o = drop (input_len o) o.in_out.now
 //! ```
+//!
+//! Definitions: [`input_len`](crate::specs::overlapping#input_len).
 //!
 //! <div id="LendsOutput"></div>
 //!
@@ -89,6 +91,8 @@
 //!   pub written : new ≡ items answers.answer ++ drop n old
 //! ```
 //!
+//! Definitions: [`AnswersChunk`](crate::specs::overlapping#AnswersChunk).
+//!
 //! <div id="LendsRest"></div>
 //!
 //! ```text
@@ -100,3 +104,6 @@
 //!     fex (AnswersChunk items g n f (drop b.start b.in_out.now)) (λ a. LendsBehind T b.in_out (items a.answer) rest.in_out)
 //! LendsRest T items g n f b (Err e) = EndsAs T b.in_out b.in_out.now
 //! ```
+//!
+//! Definitions: [`AnswersChunk`](crate::specs::overlapping#AnswersChunk),
+//! [`LendsBehind`](crate::specs::overlapping#LendsBehind), [`EndsAs`](crate::specs::overlapping#EndsAs).

@@ -1,7 +1,7 @@
 // Written by tools/rust from crates/aead_ciphers_base/specs/Planes.antt. Don't edit.
 //! Blocks in eight planes, and four of them in planes of 64 bits: bit 16 block + byte of plane b is bit b of that byte.
 //!
-//! The definitions of `crates/aead_ciphers_base/specs/Planes.antt`, which use those of [`aes`](crate::specs::aes), [`byte_field`](crate::specs::byte_field), [`bytes`](crate::specs::bytes).
+//! The definitions of `crates/aead_ciphers_base/specs/Planes.antt` of the repository.
 //!
 //! <div id="plane_byte"></div>
 //!
@@ -11,6 +11,8 @@
 //! plane_byte planes p = value_of (each_below 8 (λ b. bit_at (slice_index planes b) p == 1))
 //! ```
 //!
+//! Definitions: [`value_of`](crate::specs::byte_field#value_of), [`each_below`](crate::specs::bytes#each_below).
+//!
 //! <div id="plane_polynomial"></div>
 //!
 //! ```text
@@ -19,6 +21,8 @@
 //! plane_polynomial n planes p = each_below n (λ b. bit_at (slice_index planes b) p == 1)
 //! ```
 //!
+//! Definitions: [`each_below`](crate::specs::bytes#each_below).
+//!
 //! <div id="block_at"></div>
 //!
 //! ```text
@@ -26,6 +30,8 @@
 //! unfoldable pub block_at : (ℕ → ℕ → ℕ) → List ℕ → ℕ → List ℕ
 //! block_at place planes k = state (λ r c. plane_byte planes (place k (r + 4 * c)))
 //! ```
+//!
+//! Definitions: [`state`](crate::specs::aes#state), [`plane_byte`](crate::specs::planes#plane_byte).
 //!
 //! <div id="place_of_four"></div>
 //!
@@ -42,6 +48,8 @@
 //! place_of_four_within k j hk hj = omega arith
 //! ```
 //!
+//! Definitions: [`place_of_four`](crate::specs::planes#place_of_four).
+//!
 //! <div id="plane_block"></div>
 //!
 //! ```text
@@ -49,6 +57,8 @@
 //! abbrev pub plane_block : List ℕ → ℕ → List ℕ
 //! plane_block = block_at place_of_four
 //! ```
+//!
+//! Definitions: [`block_at`](crate::specs::planes#block_at), [`place_of_four`](crate::specs::planes#place_of_four).
 //!
 //! <div id="below"></div>
 //!
@@ -84,6 +94,8 @@
 //!     (k r c : ℕ) → k < n → r < 4 → c < 4 → plane_byte new (place k (r + 4 * c)) ≡ plane_byte old (place k (from r c))
 //! ```
 //!
+//! Definitions: [`plane_byte`](crate::specs::planes#plane_byte).
+//!
 //! <div id="HoldsRound"></div>
 //!
 //! ```text
@@ -92,6 +104,8 @@
 //! HoldsRound place k w j planes =
 //!     (r c : ℕ) → r < 4 → c < 4 → plane_byte planes (place k (r + 4 * c)) ≡ slice_index (word_at w (4 * j + c)) r
 //! ```
+//!
+//! Definitions: [`plane_byte`](crate::specs::planes#plane_byte), [`word_at`](crate::specs::aes#word_at).
 //!
 //! <div id="word_bit"></div>
 //!

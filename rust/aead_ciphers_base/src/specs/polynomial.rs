@@ -2,7 +2,7 @@
 //! Polynomials over the field of two elements, and their products modulo a polynomial (FIPS 197 section 4.2,
 //! SP 800-38D section 6.3). A polynomial is the list of its coefficients, which are bits, that of x^0 first.
 //!
-//! The definitions of `crates/aead_ciphers_base/specs/Polynomial.antt`, which use those of [`bytes`](crate::specs::bytes).
+//! The definitions of `crates/aead_ciphers_base/specs/Polynomial.antt` of the repository.
 //!
 //! <div id="xor"></div>
 //!
@@ -23,6 +23,8 @@
 //! xor_sum (suc n) f = xor_sum n f xor f n
 //! ```
 //!
+//! Definitions: [`xor`](crate::specs::polynomial#xor).
+//!
 //! <div id="coefficient"></div>
 //!
 //! ```text
@@ -40,6 +42,9 @@
 //!     (λ k. xor_sum (suc k) (λ i. coefficient a i && coefficient b (k - i)))
 //! ```
 //!
+//! Definitions: [`each_below`](crate::specs::bytes#each_below), [`xor_sum`](crate::specs::polynomial#xor_sum),
+//! [`coefficient`](crate::specs::polynomial#coefficient).
+//!
 //! <div id="remainder"></div>
 //!
 //! ```text
@@ -54,6 +59,9 @@
 //!     remainder taps d n (each_below m (λ j. coefficient p j xor (coefficient p m && list_any (λ t. n + t == j) taps)))
 //! ```
 //!
+//! Definitions: [`each_below`](crate::specs::bytes#each_below),
+//! [`coefficient`](crate::specs::polynomial#coefficient), [`xor`](crate::specs::polynomial#xor).
+//!
 //! <div id="field_product"></div>
 //!
 //! ```text
@@ -62,3 +70,6 @@
 //! unfoldable pub field_product : List ℕ → ℕ → List Bool → List Bool → List Bool
 //! field_product taps d a b = let p = polynomial_product a b in remainder taps d (length p - d) p
 //! ```
+//!
+//! Definitions: [`polynomial_product`](crate::specs::polynomial#polynomial_product),
+//! [`remainder`](crate::specs::polynomial#remainder).

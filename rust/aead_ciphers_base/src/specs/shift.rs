@@ -1,7 +1,7 @@
 // Written by tools/rust from crates/aead_ciphers_base/specs/Shift.antt. Don't edit.
 //! Transforming the blocks of an overlapping buffer.
 //!
-//! The definitions of `crates/aead_ciphers_base/specs/Shift.antt`, which use those of [`blocks`](crate::specs::blocks).
+//! The definitions of `crates/aead_ciphers_base/specs/Shift.antt` of the repository.
 //!
 //! <div id="Answers"></div>
 //!
@@ -20,6 +20,8 @@
 //!     → Answers g f calls p → blocks n xs ≡ map (λ x. items x.0) calls ++ (items c ∷ rest) → TakesAt g p c
 //! ```
 //!
+//! Definitions: [`Answers`](crate::specs::shift#Answers), [`blocks`](crate::specs::blocks#blocks).
+//!
 //! <div id="ShiftsBlocks"></div>
 //!
 //! ```text
@@ -33,3 +35,6 @@
 //!   pub taken : map (λ x. items x.0) calls ≡ blocks n (drop start old)
 //!   pub written : new ≡ joined (map (λ x. items x.1) calls) ++ drop (length old - start) old
 //! ```
+//!
+//! Definitions: [`Answers`](crate::specs::shift#Answers), [`blocks`](crate::specs::blocks#blocks),
+//! [`joined`](crate::specs::blocks#joined).

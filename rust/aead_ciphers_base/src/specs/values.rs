@@ -1,7 +1,7 @@
 // Written by tools/rust from crates/aead_ciphers_base/specs/Values.antt. Don't edit.
 //! What a contract sees of an `Aad`: its bytes.
 //!
-//! The definitions of `crates/aead_ciphers_base/specs/Values.antt`.
+//! The definitions of `crates/aead_ciphers_base/specs/Values.antt` of the repository.
 //!
 //! <div id="aad_bytes"></div>
 //!

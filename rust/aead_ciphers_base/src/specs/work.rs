@@ -1,7 +1,7 @@
 // Written by tools/rust from crates/aead_ciphers_base/specs/Work.antt. Don't edit.
 //! What a contract sees of a `Work`: the numbers of cipher blocks and field products that were counted.
 //!
-//! The definitions of `crates/aead_ciphers_base/specs/Work.antt`.
+//! The definitions of `crates/aead_ciphers_base/specs/Work.antt` of the repository.
 //!
 //! <div id="Tallies"></div>
 //!
@@ -19,6 +19,8 @@
 //! Adds was now blocks products = (now.blocks ≡ was.blocks + blocks) × (now.products ≡ was.products + products)
 //! ```
 //!
+//! Definitions: [`Tallies`](crate::specs::work#Tallies).
+//!
 //! <div id="CanAdd"></div>
 //!
 //! ```text
@@ -27,6 +29,8 @@
 //! CanAdd work blocks products = (work.blocks + blocks < 2 ^ 64) × (work.products + products < 2 ^ 64)
 //! ```
 //!
+//! Definitions: [`Tallies`](crate::specs::work#Tallies).
+//!
 //! <div id="HasRoom"></div>
 //!
 //! ```text
@@ -34,3 +38,5 @@
 //! abbrev pub HasRoom : Tallies → Type 0
 //! HasRoom work = (work.blocks ≤ 2 ^ 62) × (work.products ≤ 2 ^ 62)
 //! ```
+//!
+//! Definitions: [`Tallies`](crate::specs::work#Tallies).

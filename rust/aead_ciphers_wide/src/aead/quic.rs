@@ -23,6 +23,18 @@ use aead_ciphers_base::error::Unspecified;
 /// assert_eq!(key.new_mask(&sample)?, [0x43, 0x7b, 0x9a, 0xec, 0x36]);
 /// # Ok::<(), Unspecified>(())
 /// ```
+///
+/// <details><summary>Model</summary>
+///
+/// ```text
+/// ghost Value = { HeaderKey };
+/// ghost view = { λ key. header_key key.cipher };
+/// ```
+///
+/// Definitions: [`HeaderKey`](aead_ciphers::specs::header_protection#HeaderKey),
+/// [`header_key`](crate::specs::header_key#header_key).
+///
+/// </details>
 pub struct HeaderProtectionKey {
     cipher: Cipher,
 }

@@ -9,13 +9,26 @@ use aead_ciphers_base::values::Sample;
 use simd::u8x16;
 
 /// An expanded AES key for one block at a time: its round keys (FIPS 197 section 5.2).
+///
+/// <details><summary>Model</summary>
+///
+/// ```text
+/// ghost Value = { List ℕ };
+/// ghost view = { λ key. key_of key.round_keys key.rounds };
+/// ghost invariant = { λ key. IsSchedule key.round_keys key.rounds };
+/// ```
+///
+/// Definitions: [`key_of`](crate::specs::wide_schedule#key_of),
+/// [`IsSchedule`](crate::specs::wide_schedule#IsSchedule).
+///
+/// </details>
 #[derive(Clone)]
 pub struct BlockKey {
     round_keys: RoundKeys,
     rounds: usize,
 }
 
-/// Overwrites the key with zeros.
+/// Overwrites the secret fields with zeros.
 impl Drop for BlockKey {
     fn drop(&mut self) {
         simd::wipe(&mut self.round_keys);
@@ -101,6 +114,19 @@ impl simd::Job for BlockKeyNewMask<'_> {
 }
 
 /// A `BlockKey` that borrows its round keys, for example from a key that encrypts eight blocks at a time.
+///
+/// <details><summary>Model</summary>
+///
+/// ```text
+/// ghost Value = { List ℕ };
+/// ghost view = { λ key. key_of key.round_keys.now key.rounds };
+/// ghost invariant = { λ key. IsSchedule key.round_keys.now key.rounds };
+/// ```
+///
+/// Definitions: [`key_of`](crate::specs::wide_schedule#key_of),
+/// [`IsSchedule`](crate::specs::wide_schedule#IsSchedule).
+///
+/// </details>
 pub struct BlockKeyRef<'k, V: simd::Level> {
     level: core::marker::PhantomData<V>,
 
@@ -182,6 +208,15 @@ impl<'k, V: simd::Level> BlockKeyRef<'k, V> {
     }
 }
 
+/// <details><summary>Ghost items</summary>
+///
+/// ```text
+/// ghost cipher = { λ key block. aes key block };
+/// ```
+///
+/// Definitions: [`aes`](aead_ciphers_base::specs::aes#aes).
+///
+/// </details>
 impl<'k, V: simd::Level> EncryptBlock for BlockKeyRef<'k, V> {
     #[inline(always)]
     fn encrypt_block(&self, block: Block, work: &mut Work) -> Block {

@@ -15,6 +15,15 @@ pub type KeyPlanes = [u64; 16];
 /// The planes of the round keys of a key.
 pub type RoundPlanes = [KeyPlanes; 15];
 
+/// <details><summary>Ghost items</summary>
+///
+/// ```text
+/// ghost held = { planes_of };
+/// ```
+///
+/// Definitions: [`planes_of`](crate::specs::wide_schedule#planes_of).
+///
+/// </details>
 impl<V: simd::Level> RoundKeyPlanes<Word<V>> for KeyPlanes {
     #[inline(always)]
     fn planes(&self) -> [Word<V>; 8] {
@@ -39,6 +48,15 @@ fn both_halves<V: simd::Level>(low: u64, high: u64) -> WiderWord<V> {
     WiderWord::<V>::new(half, half)
 }
 
+/// <details><summary>Ghost items</summary>
+///
+/// ```text
+/// ghost held = { λ key. map twice (planes_of key) };
+/// ```
+///
+/// Definitions: [`twice`](crate::specs::word#twice), [`planes_of`](crate::specs::wide_schedule#planes_of).
+///
+/// </details>
 impl<V: simd::Level> RoundKeyPlanes<WiderWord<V>> for KeyPlanes {
     #[inline(always)]
     fn planes(&self) -> [WiderWord<V>; 8] {

@@ -56,7 +56,7 @@ pub struct SealState {
     pub begun: u32,
 }
 
-/// Overwrites the key with zeros.
+/// Overwrites the secret fields with zeros.
 impl Drop for SealState {
     fn drop(&mut self) {
         simd::wipe(&mut self.xi);

@@ -1,7 +1,7 @@
 // Written by tools/rust from crates/aead_ciphers_wide/specs/ExpandedKey.antt. Don't edit.
 //! What a contract sees of an expanded AES-GCM key that is plain data.
 //!
-//! The definitions of `crates/aead_ciphers_wide/specs/ExpandedKey.antt`, which use those of [`aes`](aead_ciphers_base::specs::aes), [`bytes`](aead_ciphers_base::specs::bytes), [`products`](crate::specs::products), [`wide_schedule`](crate::specs::wide_schedule).
+//! The definitions of `crates/aead_ciphers_wide/specs/ExpandedKey.antt` of the repository.
 //!
 //! <div id="bytes_of"></div>
 //!
@@ -10,6 +10,8 @@
 //! abbrev pub bytes_of : ExpandedKey → List ℕ
 //! bytes_of key = key_of key.round_keys key.rounds
 //! ```
+//!
+//! Definitions: [`key_of`](crate::specs::wide_schedule#key_of).
 //!
 //! <div id="IsExpanded"></div>
 //!
@@ -23,6 +25,12 @@
 //!   pub products : ArePowers key.products key.squares
 //! ```
 //!
+//! Definitions: [`IsSchedule`](crate::specs::wide_schedule#IsSchedule),
+//! [`HoldsPlanes`](crate::specs::wide_schedule#HoldsPlanes),
+//! [`products_subkey` (`subkey`)](crate::specs::products#subkey), [`aes`](aead_ciphers_base::specs::aes#aes),
+//! [`bytes_of`](crate::specs::expanded_key#bytes_of), [`zero_block`](aead_ciphers_base::specs::bytes#zero_block),
+//! [`ArePowers`](crate::specs::products#ArePowers).
+//!
 //! <div id="HasZerosAfter"></div>
 //!
 //! ```text
@@ -31,6 +39,8 @@
 //!   pub round_keys : AreZerosAfter key.round_keys key.rounds
 //!   pub planes : AreZerosAfter key.planes key.rounds
 //! ```
+//!
+//! Definitions: [`AreZerosAfter`](crate::specs::wide_schedule#AreZerosAfter).
 //!
 //! <div id="zero_key"></div>
 //!

@@ -1,7 +1,7 @@
 // Written by tools/rust from crates/aead_ciphers_wide/specs/Pieces.antt. Don't edit.
 //! A message that is sealed in pieces (SP 800-38D section 7.1).
 //!
-//! The definitions of `crates/aead_ciphers_wide/specs/Pieces.antt`, which use those of [`gcm`](aead_ciphers::specs::gcm), [`hash_of`](aead_ciphers::specs::hash_of), [`bytes`](aead_ciphers_base::specs::bytes), [`counter_mode`](aead_ciphers_base::specs::counter_mode).
+//! The definitions of `crates/aead_ciphers_wide/specs/Pieces.antt` of the repository.
 //!
 //! <div id="keystream"></div>
 //!
@@ -10,6 +10,8 @@
 //! abbrev pub keystream : (List ℕ → List ℕ) → List ℕ → ℕ → List ℕ
 //! keystream cipher nonce n = counter_mode cipher nonce (2 + n / 16) (replicate BATCH_LEN 0)
 //! ```
+//!
+//! Definitions: [`counter_mode`](aead_ciphers_base::specs::counter_mode#counter_mode).
 //!
 //! <div id="HasSealed"></div>
 //!
@@ -32,6 +34,10 @@
 //!   pub kept : 0 < length rest → s.batch ≡ rest ++ drop (length rest) (keystream cipher nonce (length whole))
 //! ```
 //!
+//! Definitions: [`gcm_encrypted`](aead_ciphers::specs::gcm#gcm_encrypted), [`Fits`](aead_ciphers::specs::gcm#Fits),
+//! [`IsHashOf`](aead_ciphers::specs::hash_of#IsHashOf), [`zero_block`](aead_ciphers_base::specs::bytes#zero_block),
+//! [`padded_blocks`](aead_ciphers::specs::gcm#padded_blocks), [`keystream`](crate::specs::pieces#keystream).
+//!
 //! <div id="SealsPiece"></div>
 //!
 //! ```text
@@ -41,6 +47,8 @@
 //!   pub sealed : (nonce aad message ciphertext : List ℕ) → HasSealed cipher nonce aad message ciphertext was
 //!       → HasSealed cipher nonce aad (message ++ piece) (ciphertext ++ out) now
 //! ```
+//!
+//! Definitions: [`HasSealed`](crate::specs::pieces#HasSealed).
 //!
 //! <div id="zero_state"></div>
 //!
@@ -69,3 +77,6 @@
 //!   pub short : s.len < BATCH_LEN
 //!   pub hashed : IsHashOf h (padded_blocks whole) s.xi
 //! ```
+//!
+//! Definitions: [`IsHashOf`](aead_ciphers::specs::hash_of#IsHashOf),
+//! [`padded_blocks`](aead_ciphers::specs::gcm#padded_blocks).

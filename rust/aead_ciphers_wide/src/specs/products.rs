@@ -1,7 +1,7 @@
 // Written by tools/rust from crates/aead_ciphers_wide/specs/Products.antt. Don't edit.
 //! The products of a hash subkey and the digits of a byte; a product of blocks is a sum of them (SP 800-38D section 6.3).
 //!
-//! The definitions of `crates/aead_ciphers_wide/specs/Products.antt`, which use those of [`ghash`](aead_ciphers::specs::ghash), [`multiples`](aead_ciphers::specs::multiples), [`bytes`](aead_ciphers_base::specs::bytes).
+//! The definitions of `crates/aead_ciphers_wide/specs/Products.antt` of the repository.
 //!
 //! <div id="stepped"></div>
 //!
@@ -12,6 +12,9 @@
 //! stepped (suc n) block = monomial_block 8 • stepped n block
 //! ```
 //!
+//! Definitions: [`monomial_block`](aead_ciphers::specs::multiples#monomial_block),
+//! [`•`](aead_ciphers::specs::ghash#•).
+//!
 //! <div id="u128_times"></div>
 //!
 //! ```text
@@ -19,6 +22,8 @@
 //! unfoldable pub u128_times : List ℕ → List ℕ
 //! u128_times block = stepped 16 block
 //! ```
+//!
+//! Definitions: [`stepped`](crate::specs::products#stepped).
 //!
 //! <div id="shifted_byte"></div>
 //!
@@ -37,6 +42,8 @@
 //!     bit_xor (bit_xor (bit_xor b (shifted_byte 1 before b)) (shifted_byte 2 before b)) (shifted_byte 7 before b)
 //! ```
 //!
+//! Definitions: [`shifted_byte`](crate::specs::products#shifted_byte).
+//!
 //! <div id="first_byte"></div>
 //!
 //! ```text
@@ -53,6 +60,8 @@
 //! column table n = each_below 16 (λ r. slice_index table (16 * r + n))
 //! ```
 //!
+//! Definitions: [`each_below`](aead_ciphers_base::specs::bytes#each_below).
+//!
 //! <div id="AreProducts"></div>
 //!
 //! ```text
@@ -63,6 +72,9 @@
 //!   pub low : (n : ℕ) → n < 16 → column table (256 + n) ≡ first_byte n • h
 //! ```
 //!
+//! Definitions: [`column`](crate::specs::products#column), [`first_byte`](crate::specs::products#first_byte),
+//! [`•`](aead_ciphers::specs::ghash#•).
+//!
 //! <div id="subkey"></div>
 //!
 //! ```text
@@ -70,6 +82,8 @@
 //! unfoldable pub subkey : List ℕ → List ℕ
 //! subkey table = column table 8
 //! ```
+//!
+//! Definitions: [`column`](crate::specs::products#column).
 //!
 //! <div id="chosen_sum"></div>
 //!
@@ -97,3 +111,6 @@
 //!   pub first : AreProducts (subkey products) products
 //!   pub second : AreProducts (subkey products • subkey products) squares
 //! ```
+//!
+//! Definitions: [`AreProducts`](crate::specs::products#AreProducts), [`subkey`](crate::specs::products#subkey),
+//! [`•`](aead_ciphers::specs::ghash#•).

@@ -2,7 +2,7 @@
 //! Blocks in eight planes: eight in planes of 128 bits, where bit 8 byte + block of plane b is bit b of that byte, and sixteen in
 //! planes of 256 bits, whose halves are such planes of the blocks with even numbers and of those with odd ones.
 //!
-//! The definitions of `crates/aead_ciphers_wide/specs/WidePlanes.antt`, which use those of [`planes`](aead_ciphers_base::specs::planes).
+//! The definitions of `crates/aead_ciphers_wide/specs/WidePlanes.antt` of the repository.
 //!
 //! <div id="place_of_eight"></div>
 //!
@@ -19,6 +19,8 @@
 //! place_of_eight_within k j hk hj = omega arith
 //! ```
 //!
+//! Definitions: [`place_of_eight`](crate::specs::wide_planes#place_of_eight).
+//!
 //! <div id="wide_block"></div>
 //!
 //! ```text
@@ -26,6 +28,9 @@
 //! abbrev pub wide_block : List ℕ → ℕ → List ℕ
 //! wide_block = block_at place_of_eight
 //! ```
+//!
+//! Definitions: [`block_at`](aead_ciphers_base::specs::planes#block_at),
+//! [`place_of_eight`](crate::specs::wide_planes#place_of_eight).
 //!
 //! <div id="place_of_sixteen"></div>
 //!
@@ -42,6 +47,8 @@
 //! place_of_sixteen_within k j hk hj = omega arith
 //! ```
 //!
+//! Definitions: [`place_of_sixteen`](crate::specs::wide_planes#place_of_sixteen).
+//!
 //! <div id="wider_block"></div>
 //!
 //! ```text
@@ -49,3 +56,6 @@
 //! abbrev pub wider_block : List ℕ → ℕ → List ℕ
 //! wider_block = block_at place_of_sixteen
 //! ```
+//!
+//! Definitions: [`block_at`](aead_ciphers_base::specs::planes#block_at),
+//! [`place_of_sixteen`](crate::specs::wide_planes#place_of_sixteen).

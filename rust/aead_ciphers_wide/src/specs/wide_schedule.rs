@@ -1,7 +1,7 @@
 // Written by tools/rust from crates/aead_ciphers_wide/specs/WideSchedule.antt. Don't edit.
 //! Round keys as blocks, and as the planes that a pass over eight blocks adds (FIPS 197 section 5.2).
 //!
-//! The definitions of `crates/aead_ciphers_wide/specs/WideSchedule.antt`, which use those of [`aes`](aead_ciphers_base::specs::aes), [`bytes`](aead_ciphers_base::specs::bytes), [`planes`](aead_ciphers_base::specs::planes).
+//! The definitions of `crates/aead_ciphers_wide/specs/WideSchedule.antt` of the repository.
 //!
 //! <div id="key_at"></div>
 //!
@@ -19,6 +19,9 @@
 //! column block c = each_below 4 (λ r. at block r c)
 //! ```
 //!
+//! Definitions: [`each_below`](aead_ciphers_base::specs::bytes#each_below),
+//! [`at`](aead_ciphers_base::specs::aes#at).
+//!
 //! <div id="HoldsWords"></div>
 //!
 //! ```text
@@ -26,6 +29,9 @@
 //! abbrev pub HoldsWords : List (List ℕ) → List (List ℕ) → ℕ → Type 0
 //! HoldsWords round_keys words n = (j c : ℕ) → j < n → c < 4 → column (key_at round_keys j) c ≡ word_at words (4 * j + c)
 //! ```
+//!
+//! Definitions: [`column`](crate::specs::wide_schedule#column), [`key_at`](crate::specs::wide_schedule#key_at),
+//! [`word_at`](aead_ciphers_base::specs::aes#word_at).
 //!
 //! <div id="key_of"></div>
 //!
@@ -35,6 +41,9 @@
 //! key_of round_keys rounds = each_below (4 * (rounds - 6)) (λ j. slice_index (key_at round_keys (j / 16)) (j % 16))
 //! ```
 //!
+//! Definitions: [`each_below`](aead_ciphers_base::specs::bytes#each_below),
+//! [`key_at`](crate::specs::wide_schedule#key_at).
+//!
 //! <div id="schedule_words"></div>
 //!
 //! ```text
@@ -42,6 +51,9 @@
 //! abbrev pub schedule_words : List (List ℕ) → ℕ → List (List ℕ)
 //! schedule_words round_keys rounds = key_words (rounds - 6) (key_of round_keys rounds) (4 * (rounds + 1) - (rounds - 6))
 //! ```
+//!
+//! Definitions: [`key_words`](aead_ciphers_base::specs::aes#key_words),
+//! [`key_of`](crate::specs::wide_schedule#key_of).
 //!
 //! <div id="IsSchedule"></div>
 //!
@@ -52,6 +64,9 @@
 //!   pub in_range : rounds ≤ 14
 //!   pub expanded : HoldsWords round_keys (schedule_words round_keys rounds) (rounds + 1)
 //! ```
+//!
+//! Definitions: [`HoldsWords`](crate::specs::wide_schedule#HoldsWords),
+//! [`schedule_words`](crate::specs::wide_schedule#schedule_words).
 //!
 //! <div id="AreZerosAfter"></div>
 //!
@@ -77,6 +92,9 @@
 //! planes_of planes = each_below 8 (plane_of planes)
 //! ```
 //!
+//! Definitions: [`each_below`](aead_ciphers_base::specs::bytes#each_below),
+//! [`plane_of`](crate::specs::wide_schedule#plane_of).
+//!
 //! <div id="HoldsPlanes"></div>
 //!
 //! ```text
@@ -85,3 +103,6 @@
 //! HoldsPlanes planes round_keys n = (j p : ℕ) → j < n → p < 128
 //!     → plane_byte (planes_of (slice_index_or planes j [])) p ≡ slice_index (key_at round_keys j) (p / 8)
 //! ```
+//!
+//! Definitions: [`plane_byte`](aead_ciphers_base::specs::planes#plane_byte),
+//! [`planes_of`](crate::specs::wide_schedule#planes_of), [`key_at`](crate::specs::wide_schedule#key_at).

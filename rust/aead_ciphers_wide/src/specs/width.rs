@@ -1,7 +1,7 @@
 // Written by tools/rust from crates/aead_ciphers_wide/specs/Width.antt. Don't edit.
 //! The widths of bit planes, in bits.
 //!
-//! The definitions of `crates/aead_ciphers_wide/specs/Width.antt`.
+//! The definitions of `crates/aead_ciphers_wide/specs/Width.antt` of the repository.
 //!
 //! <div id="width_bits"></div>
 //!

@@ -1,7 +1,7 @@
 // Written by tools/rust from crates/aead_ciphers_wide/specs/Word.antt. Don't edit.
 //! Numbers as lanes of 64 bits, and those of 256 bits as two halves.
 //!
-//! The definitions of `crates/aead_ciphers_wide/specs/Word.antt`.
+//! The definitions of `crates/aead_ciphers_wide/specs/Word.antt` of the repository.
 //!
 //! <div id="lane_of"></div>
 //!
@@ -19,6 +19,8 @@
 //! lanes_of j xs = map (lane_of j) xs
 //! ```
 //!
+//! Definitions: [`lane_of`](crate::specs::word#lane_of).
+//!
 //! <div id="half_of"></div>
 //!
 //! ```text
@@ -34,7 +36,6 @@
 //! abbrev pub twice : ℕ → ℕ
 //! twice n = n % 2 ^ 128 * 2 ^ 128 + n % 2 ^ 128
 //! ```
-//!
 //!
 //! ```text
 //! digits_of : (lanes : List ℕ) → Each1 (λ x. x < 2 ^ 64) lanes

@@ -8,6 +8,16 @@ use core::ops::{BitAnd, BitXor};
 use simd::u64x4;
 
 /// A number of 256 bits.
+///
+/// <details><summary>Model</summary>
+///
+/// ```text
+/// ghost Value = { ℕ };
+/// ghost view = { λ word. number_l (2 ^ 64) word.lanes };
+/// ghost invariant = { λ word. (length word.lanes ≡ 4) × Each1 (λ x. x < 2 ^ 64) word.lanes };
+/// ```
+///
+/// </details>
 #[derive(Clone, Copy)]
 pub struct WiderWord<V: simd::Level> {
     lanes: u64x4<V>,
@@ -51,6 +61,14 @@ impl<V: simd::Level> WiderWord<V> {
     }
 }
 
+/// <details><summary>Ghost items</summary>
+///
+/// ```text
+/// // What holds of the operands of `^` and of the result.
+/// ghost bitxor_gives = { λ a b result. result ≡ bit_xor a b };
+/// ```
+///
+/// </details>
 impl<V: simd::Level> BitXor<WiderWord<V>> for WiderWord<V> {
     type Output = WiderWord<V>;
 
@@ -62,6 +80,14 @@ impl<V: simd::Level> BitXor<WiderWord<V>> for WiderWord<V> {
     }
 }
 
+/// <details><summary>Ghost items</summary>
+///
+/// ```text
+/// // What holds of the operands of `&` and of the result.
+/// ghost bitand_gives = { λ a b result. result ≡ bit_and a b };
+/// ```
+///
+/// </details>
 impl<V: simd::Level> BitAnd<WiderWord<V>> for WiderWord<V> {
     type Output = WiderWord<V>;
 
@@ -73,6 +99,17 @@ impl<V: simd::Level> BitAnd<WiderWord<V>> for WiderWord<V> {
     }
 }
 
+/// <details><summary>Ghost items</summary>
+///
+/// ```text
+/// ghost number = { λ word. word };
+/// ghost width = { 256 };
+/// ghost place = { place_of_sixteen };
+/// ```
+///
+/// Definitions: [`place_of_sixteen`](crate::specs::wide_planes#place_of_sixteen).
+///
+/// </details>
 impl<V: simd::Level> Plane for WiderWord<V> {
     #[inline(always)]
     fn ones() -> WiderWord<V> {

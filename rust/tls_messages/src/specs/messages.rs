@@ -1,7 +1,7 @@
 // Written by tools/rust from crates/tls_messages/specs/Messages.antt. Don't edit.
 //! Handshake messages (RFC 8446 section 4), and how they are joined from the contents of records (section 5.1).
 //!
-//! The definitions of `crates/tls_messages/specs/Messages.antt`.
+//! The definitions of `crates/tls_messages/specs/Messages.antt` of the repository.
 //!
 //! <div id="message_len"></div>
 //!
@@ -20,6 +20,8 @@
 //!   pub len : length bytes ≡ message_len bytes
 //! ```
 //!
+//! Definitions: [`message_len`](crate::specs::messages#message_len).
+//!
 //! <div id="IsPart"></div>
 //!
 //! ```text
@@ -27,6 +29,8 @@
 //! abbrev pub IsPart : List ℕ → Type 0
 //! IsPart bytes = 4 ≤ length bytes → length bytes < message_len bytes
 //! ```
+//!
+//! Definitions: [`message_len`](crate::specs::messages#message_len).
 //!
 //! <div id="may_come"></div>
 //!
@@ -70,6 +74,8 @@
 //!     may_send stage (slice_index first 0) && not (slice_index first 0 == 20) && may_send_all stage (next ∷ later)
 //! ```
 //!
+//! Definitions: [`may_send`](crate::specs::messages#may_send).
+//!
 //! <div id="IsExpected"></div>
 //!
 //! ```text
@@ -81,6 +87,8 @@
 //!   pub fits : message_len bytes ≤ bound
 //! ```
 //!
+//! Definitions: [`may_come`](crate::specs::messages#may_come), [`message_len`](crate::specs::messages#message_len).
+//!
 //! <div id="Begins"></div>
 //!
 //! ```text
@@ -88,6 +96,8 @@
 //! abbrev pub Begins : Stage → ℕ → List ℕ → Type 0
 //! Begins stage bound bytes = 4 ≤ length bytes → IsExpected stage bound bytes
 //! ```
+//!
+//! Definitions: [`IsExpected`](crate::specs::messages#IsExpected).
 //!
 //! <div id="Splits"></div>
 //!
@@ -99,6 +109,8 @@
 //!   pub joined : stream ≡ concat messages ++ part
 //! ```
 //!
+//! Definitions: [`IsMessage`](crate::specs::messages#IsMessage), [`IsPart`](crate::specs::messages#IsPart).
+//!
 //! <div id="begins_whole"></div>
 //!
 //! ```text
@@ -106,6 +118,8 @@
 //! abbrev pub begins_whole : List ℕ → Bool
 //! begins_whole stream = leb 4 (length stream) && leb (message_len stream) (length stream)
 //! ```
+//!
+//! Definitions: [`message_len`](crate::specs::messages#message_len).
 //!
 //! <div id="messages_in"></div>
 //!
@@ -117,6 +131,9 @@
 //!     (take (message_len stream) stream ∷ messages_in n (drop (message_len stream) stream)) []
 //! ```
 //!
+//! Definitions: [`begins_whole`](crate::specs::messages#begins_whole),
+//! [`message_len`](crate::specs::messages#message_len).
+//!
 //! <div id="part_in"></div>
 //!
 //! ```text
@@ -126,6 +143,9 @@
 //! part_in (suc n) stream = cond (begins_whole stream) (part_in n (drop (message_len stream) stream)) stream
 //! ```
 //!
+//! Definitions: [`begins_whole`](crate::specs::messages#begins_whole),
+//! [`message_len`](crate::specs::messages#message_len).
+//!
 //! <div id="messages_of"></div>
 //!
 //! ```text
@@ -133,6 +153,8 @@
 //! unfoldable pub messages_of : List ℕ → List (List ℕ)
 //! messages_of stream = messages_in (length stream) stream
 //! ```
+//!
+//! Definitions: [`messages_in`](crate::specs::messages#messages_in).
 //!
 //! <div id="part_of"></div>
 //!
@@ -142,6 +164,8 @@
 //! part_of stream = part_in (length stream) stream
 //! ```
 //!
+//! Definitions: [`part_in`](crate::specs::messages#part_in).
+//!
 //! <div id="messages_read"></div>
 //!
 //! ```text
@@ -150,6 +174,8 @@
 //! messages_read part [] = []
 //! messages_read part (content ∷ later) = messages_of (part ++ content) ++ messages_read (part_of (part ++ content)) later
 //! ```
+//!
+//! Definitions: [`messages_of`](crate::specs::messages#messages_of), [`part_of`](crate::specs::messages#part_of).
 //!
 //! <div id="Joining"></div>
 //!
@@ -180,6 +206,8 @@
 //! ChangesKeys message = IsTrue (changes_keys (slice_index message 0))
 //! ```
 //!
+//! Definitions: [`changes_keys`](crate::specs::messages#changes_keys).
+//!
 //! <div id="IsTaken"></div>
 //!
 //! ```text
@@ -189,3 +217,5 @@
 //!   pub request : slice_index message 0 ≡ 24 → slice_index message 4 ≤ 1
 //!   pub aligned : ChangesKeys message → rest ≡ []
 //! ```
+//!
+//! Definitions: [`ChangesKeys`](crate::specs::messages#ChangesKeys).

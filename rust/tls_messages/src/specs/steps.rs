@@ -1,7 +1,7 @@
 // Written by tools/rust from crates/tls_messages/specs/Steps.antt. Don't edit.
 //! What one call of a reader does, and the alert and the code in QUIC that an error calls for.
 //!
-//! The definitions of `crates/tls_messages/specs/Steps.antt`, which use those of [`messages`](crate::specs::messages).
+//! The definitions of `crates/tls_messages/specs/Steps.antt` of the repository.
 //!
 //! <div id="alert_of"></div>
 //!
@@ -73,6 +73,8 @@
 //! crypto_error alert = 2 ^ 8 + alert_code alert
 //! ```
 //!
+//! Definitions: [`alert_code`](crate::specs::steps#alert_code).
+//!
 //! <div id="quic_code_of"></div>
 //!
 //! ```text
@@ -89,6 +91,10 @@
 //! quic_code_of Closed = None
 //! ```
 //!
+//! Definitions: [`crypto_buffer_exceeded`](crate::specs::steps#crypto_buffer_exceeded),
+//! [`protocol_violation`](crate::specs::steps#protocol_violation),
+//! [`crypto_error`](crate::specs::steps#crypto_error).
+//!
 //! <div id="RefusesHeader"></div>
 //!
 //! ```text
@@ -104,6 +110,8 @@
 //! RefusesHeader stage bound start error = ⊥
 //! ```
 //!
+//! Definitions: [`may_come`](crate::specs::messages#may_come), [`message_len`](crate::specs::messages#message_len).
+//!
 //! <div id="RefusesMessage"></div>
 //!
 //! ```text
@@ -114,6 +122,8 @@
 //!     (slice_index message 0 ≡ 24 → slice_index message 4 ≤ 1) × ChangesKeys message × (rest ≢ [])
 //! RefusesMessage message rest error = ⊥
 //! ```
+//!
+//! Definitions: [`ChangesKeys`](crate::specs::messages#ChangesKeys).
 //!
 //! <div id="Refuses"></div>
 //!
@@ -129,6 +139,9 @@
 //! Refuses stage bound part kept rest error = (length kept ≡ max 4 (length part)) × RefusesHeader stage bound kept error
 //! ```
 //!
+//! Definitions: [`IsMessage`](crate::specs::messages#IsMessage), [`IsExpected`](crate::specs::messages#IsExpected),
+//! [`RefusesMessage`](crate::specs::steps#RefusesMessage), [`RefusesHeader`](crate::specs::steps#RefusesHeader).
+//!
 //! <div id="KeepsRules"></div>
 //!
 //! ```text
@@ -136,6 +149,8 @@
 //! abbrev pub KeepsRules : Joining → Joining → Type 0
 //! KeepsRules was now = (now.bound ≡ was.bound) × (now.stage ≡ was.stage)
 //! ```
+//!
+//! Definitions: [`Joining`](crate::specs::messages#Joining).
 //!
 //! <div id="Leaves"></div>
 //!
@@ -152,3 +167,6 @@
 //! Leaves was content (Err error) rest now = KeepsRules was now × IsTrue now.is_closed
 //!     × Refuses was.stage was.bound was.part now.part rest error × (was.part ++ content ≡ now.part ++ rest)
 //! ```
+//!
+//! Definitions: [`Joining`](crate::specs::messages#Joining), [`KeepsRules`](crate::specs::steps#KeepsRules),
+//! [`part_of`](crate::specs::messages#part_of), [`Refuses`](crate::specs::steps#Refuses).

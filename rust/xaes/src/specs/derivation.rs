@@ -2,7 +2,7 @@
 //! Deriving keys by CMAC (NIST SP 800-38B) over AES-256 in counter mode (NIST SP 800-108r1), as XAES-256-GCM (a specification of C2SP,
 //! c2sp.org/XAES-256-GCM) does.
 //!
-//! The definitions of `crates/xaes/specs/Derivation.antt`, which use those of [`aes`](aead_ciphers_base::specs::aes), [`bytes`](aead_ciphers_base::specs::bytes).
+//! The definitions of `crates/xaes/specs/Derivation.antt` of the repository.
 //!
 //! <div id="first_subkey"></div>
 //!
@@ -24,6 +24,10 @@
 //! cmac_of_block key block = aes key (first_subkey (aes key zero_block) ⊕ block)
 //! ```
 //!
+//! Definitions: [`aes`](aead_ciphers_base::specs::aes#aes),
+//! [`first_subkey`](crate::specs::derivation#first_subkey),
+//! [`zero_block`](aead_ciphers_base::specs::bytes#zero_block), [`⊕`](aead_ciphers_base::specs::bytes#⊕).
+//!
 //! <div id="input_block"></div>
 //!
 //! ```text
@@ -41,6 +45,9 @@
 //! derived_block key context i = cmac_of_block key (input_block i context)
 //! ```
 //!
+//! Definitions: [`cmac_of_block`](crate::specs::derivation#cmac_of_block),
+//! [`input_block`](crate::specs::derivation#input_block).
+//!
 //! <div id="derived_key"></div>
 //!
 //! ```text
@@ -48,3 +55,5 @@
 //! abbrev pub derived_key : (key context : List ℕ) → List ℕ
 //! derived_key key context = derived_block key context 1 ++ derived_block key context 2
 //! ```
+//!
+//! Definitions: [`derived_block`](crate::specs::derivation#derived_block).

@@ -1,7 +1,7 @@
 // Written by tools/rust from crates/xaes/specs/Expanded.antt. Don't edit.
 //! What a contract sees of an expanded key of XAES-256-GCM that is plain data.
 //!
-//! The definitions of `crates/xaes/specs/Expanded.antt`, which use those of [`aes`](aead_ciphers_base::specs::aes), [`bytes`](aead_ciphers_base::specs::bytes), [`wide_schedule`](aead_ciphers_wide::specs::wide_schedule), [`derivation`](crate::specs::derivation).
+//! The definitions of `crates/xaes/specs/Expanded.antt` of the repository.
 //!
 //! <div id="bytes_of"></div>
 //!
@@ -10,6 +10,8 @@
 //! abbrev pub bytes_of : ExpandedKey → List ℕ
 //! bytes_of key = key_of key.round_keys key.rounds
 //! ```
+//!
+//! Definitions: [`key_of`](aead_ciphers_wide::specs::wide_schedule#key_of).
 //!
 //! <div id="IsExpanded"></div>
 //!
@@ -20,6 +22,10 @@
 //!   pub schedule : IsSchedule key.round_keys key.rounds
 //!   pub subkey : key.subkey ≡ first_subkey (aes (bytes_of key) zero_block)
 //! ```
+//!
+//! Definitions: [`IsSchedule`](aead_ciphers_wide::specs::wide_schedule#IsSchedule),
+//! [`first_subkey`](crate::specs::derivation#first_subkey), [`aes`](aead_ciphers_base::specs::aes#aes),
+//! [`bytes_of`](crate::specs::expanded#bytes_of), [`zero_block`](aead_ciphers_base::specs::bytes#zero_block).
 //!
 //! <div id="message_width"></div>
 //!

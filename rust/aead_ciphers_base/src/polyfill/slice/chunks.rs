@@ -4,11 +4,29 @@
 use core::ops::Index;
 
 /// A view of a slice as whole blocks of `N` items.
+///
+/// <details><summary>Invariant</summary>
+///
+/// ```text
+/// pub ghost whole: { length items.now % N ≡ 0 }
+/// ```
+///
+/// </details>
 pub struct AsChunks<'a, T, const N: usize> {
     /// The items of all blocks.
     pub items: &'a [T],
 }
 
+/// <details><summary>Ghost items</summary>
+///
+/// ```text
+/// // What holds of a value and of what `clone` returns for it.
+/// ghost is_clone = { λ s r. r.items.now ≡ s.items.now };
+/// // For which values `clone` doesn't fail.
+/// ghost is_infallible = { λ _. ⊤ };
+/// ```
+///
+/// </details>
 impl<T, const N: usize> Clone for AsChunks<'_, T, N> {
     #[inline(always)]
     fn clone(&self) -> Self {
@@ -124,6 +142,18 @@ impl<'a, T, const N: usize> AsChunks<'a, T, N> {
     }
 }
 
+/// <details><summary>Ghost items</summary>
+///
+/// ```text
+/// // For which values and indices `index` returns.
+/// ghost can_index = { λ v i. i < length (blocks N v.items.now) };
+/// // What holds of a value, of an index, and of what `index` returns.
+/// ghost index_gives = { λ v i b. b ≡ slice_index_or (blocks N v.items.now) i b };
+/// ```
+///
+/// Definitions: [`blocks`](crate::specs::blocks#blocks).
+///
+/// </details>
 impl<T, const N: usize> Index<usize> for AsChunks<'_, T, N> {
     type Output = [T; N];
 
@@ -144,6 +174,18 @@ pub struct AsChunksIter<'a, T, const N: usize> {
     pub items: &'a [T],
 }
 
+/// <details><summary>Ghost items</summary>
+///
+/// ```text
+/// // What holds of an iterator before a call of `next`, of what this returns, and of the iterator after it.
+/// ghost next_gives = { YieldsFirstRef (λ s. blocks N s.items.now) };
+/// // How many items an iterator returns at most.
+/// ghost remaining = { item_count (λ s. blocks N s.items.now) };
+/// ```
+///
+/// Definitions: [`blocks`](crate::specs::blocks#blocks).
+///
+/// </details>
 impl<'a, T, const N: usize> Iterator for AsChunksIter<'a, T, N> {
     type Item = &'a [T; N];
 
@@ -182,6 +224,14 @@ impl<'a, T, const N: usize> Iterator for AsChunksIter<'a, T, N> {
     }
 }
 
+/// <details><summary>Ghost items</summary>
+///
+/// ```text
+/// // What holds of a value and of the iterator that is made of it.
+/// ghost into_iter_gives = { λ v i. i.items.now ≡ v.items.now };
+/// ```
+///
+/// </details>
 impl<'a, T, const N: usize> IntoIterator for AsChunks<'a, T, N> {
     type Item = &'a [T; N];
 
@@ -193,6 +243,14 @@ impl<'a, T, const N: usize> IntoIterator for AsChunks<'a, T, N> {
     }
 }
 
+/// <details><summary>Ghost items</summary>
+///
+/// ```text
+/// // What holds of the argument of `from` and of what it returns.
+/// ghost from_gives = { λ b v. v.items.now ≡ b.now };
+/// ```
+///
+/// </details>
 impl<'a, T, const N: usize> From<&'a [T; N]> for AsChunks<'a, T, N> {
     #[inline(always)]
     fn from(block: &'a [T; N]) -> Self {
@@ -201,6 +259,15 @@ impl<'a, T, const N: usize> From<&'a [T; N]> for AsChunks<'a, T, N> {
 }
 
 /// Views each block of 8 items as two blocks of 4.
+///
+/// <details><summary>Ghost items</summary>
+///
+/// ```text
+/// // What holds of the argument of `from` and of what it returns.
+/// ghost from_gives = { λ b v. v.items.now ≡ b.items.now };
+/// ```
+///
+/// </details>
 impl<'a, T> From<AsChunks<'a, T, 8>> for AsChunks<'a, T, 4> {
     #[inline(always)]
     fn from(view: AsChunks<'a, T, 8>) -> Self {

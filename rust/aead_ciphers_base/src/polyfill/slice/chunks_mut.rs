@@ -63,12 +63,29 @@ pub fn as_chunks_mut<T, const N: usize>(items: &mut [T]) -> (AsChunksMut<'_, T, 
 }
 
 /// A mutable view of a slice as whole blocks of `N` items.
+///
+/// <details><summary>Invariant</summary>
+///
+/// ```text
+/// pub ghost whole: { length items.now % N ≡ 0 }
+/// ```
+///
+/// </details>
 pub struct AsChunksMut<'a, T, const N: usize> {
     /// The items of all blocks.
     pub items: &'a mut [T],
 }
 
 /// Reborrows the blocks for reading.
+///
+/// <details><summary>Ghost items</summary>
+///
+/// ```text
+/// // What holds of the argument of `from` and of what it returns.
+/// ghost from_gives = { λ m v. v.items.now ≡ m.now.items.now };
+/// ```
+///
+/// </details>
 impl<'a, 'b, T, const N: usize> From<&'a AsChunksMut<'b, T, N>> for AsChunks<'a, T, N> {
     #[inline(always)]
     fn from(view: &'a AsChunksMut<'b, T, N>) -> Self {
@@ -205,11 +222,38 @@ fn chunks_of_blocks<T, const N: usize, const CHUNK_LEN: usize>(
 }
 
 /// The iterator that `AsChunksMut::chunks_mut` returns.
+///
+/// <details><summary>Invariant</summary>
+///
+/// ```text
+/// pub ghost some: { 0 < chunks_mut_size chunks }
+/// pub ghost whole_size: { 0 < N → chunks_mut_size chunks % N ≡ 0 }
+/// pub ghost whole_rest: { length (chunks_mut_rest chunks) % N ≡ 0 }
+/// ```
+///
+/// </details>
 pub struct AsChunksMutChunksMutIter<'a, T, const N: usize> {
     /// The remaining items, in chunks of whole blocks.
     pub chunks: core::slice::ChunksMut<'a, T>,
 }
 
+/// <details><summary>Ghost items</summary>
+///
+/// ```text
+/// // What holds of an iterator before a call of `next`, of what this returns, and of the iterator after it.
+/// ghost next_gives = { λ s r t. (chunks_mut_size t.chunks ≡ chunks_mut_size s.chunks)
+///     × MatchOption r
+///     ((length (chunks_mut_rest s.chunks) ≡ 0) × (length (chunks_mut_rest t.chunks) ≡ 0))
+///     (λ v. IsNextPart (chunks_mut_size s.chunks)
+///     (chunks_mut_rest s.chunks) v.items.now (chunks_mut_rest t.chunks)) };
+/// // How many items an iterator returns at most.
+/// ghost remaining = { λ s. at_most (parts_left s.chunks) };
+/// ```
+///
+/// Definitions: [`IsNextPart`](crate::specs::chunks_mut#IsNextPart),
+/// [`parts_left`](crate::specs::chunks_mut#parts_left).
+///
+/// </details>
 impl<'a, T, const N: usize> Iterator for AsChunksMutChunksMutIter<'a, T, N> {
     type Item = AsChunksMut<'a, T, N>;
 
