@@ -37,9 +37,9 @@ DELETED = {
     "ghost parameter": Entry("`ghost NAME: { .. }` among the clauses of a function", "It has no value at run time."),
     "tactic": Entry("`#[tactic(..)]` and `#![tactic(..)]`", "It tells the prover what to try."),
     "model": Entry("`impl Model for ..`", "It says which value contracts see in a type, and goes into the doc comment of the type, but for `inverse` and `inverse_ok`."),
-    "derived Drop": Entry("`Drop` in `#[derive(..)]`", "In Rattle only a type with `Drop` may be let go. In Rust each may."),
+    "derived Drop": Entry("`Drop` in `#[derive(..)]`", "In Rattle only a value of a type with `Drop` may be dropped. In Rust every value may."),
     "Drop bound": Entry("`Drop` as a bound", "The same."),
-    "law": Entry("a call of a function of `LAWS`", "It does nothing, and its contract is for the proof."),
+    "law": Entry("a call of a function of `LAWS` in `tools/rust.d/lists.py`", "It does nothing, and its contract is for the proof."),
 }
 
 # The ghost items of an `impl Model` that go into the doc comment of the type, and those that are for proofs alone.
@@ -93,10 +93,10 @@ LEFT_OUT_ITEMS = {
 
 # Imports that nothing uses once the rest is deleted.
 DROPPED_IMPORTS = {
-    "std::marker::Model": "the trait of `impl Model`",
-    "std::alloc::AllocError": "the error of Rattle's `clone`",
-    "thiserror::Error": "its derive is written out",
-    "arrayvec::ArrayVec": "its `impl` is left out",
+    "std::marker::Model": "It is the trait of `impl Model`, which is deleted.",
+    "std::alloc::AllocError": "It is the error of Rattle's `clone`.",
+    "thiserror::Error": "What its derive makes is written out.",
+    "arrayvec::ArrayVec": "Its `impl` is left out.",
 }
 
 # Names of an import of several that nothing uses once the rest is left out.
@@ -109,12 +109,12 @@ DROPPED_NAMES = {
 }
 
 # Lines that are added before an item or, for `body`, at the beginning of its block.
-ALLOC = "`Vec` is of the crate `alloc`, which a program without an allocator hasn't."
+ALLOC = "`Vec` is of the crate `alloc`, which a program without an allocator doesn't have."
 ADDED = {
     ("aead_ciphers_wide/aes.rt", "impl Width", "body"): Entry(
         "/// Returns the width of the planes that are the faster on the running processor.\n"
         "pub fn of_processor() -> Self { if simd::has_256_bits() { Width::Bits256 } else { Width::Bits128 } }\n",
-        "Keys take it, as said below.",
+        "Two of the replaced calls pass it.",
     ),
     ("aead_ciphers/lib.rt", "mod session"): Entry('#[cfg(feature = "alloc")]', ALLOC),
     ("aead_ciphers/aead/in_out.rt", "impl InOut for Vec<u8>"): Entry('#[cfg(feature = "alloc")]', ALLOC),
@@ -180,13 +180,13 @@ REPLACED = [
 
 # What `erase.py` and `levels.py` replace by their own code, for README.
 REWRITTEN = [
-    ("std::", "core::", "The packages need no operating system. `std::simd` is the package `simd`."),
-    ("X.as_array::<N>()", "simd::array_of::<_, N>(X)", "Rust 1.85 doesn't have `as_array`, nor `as_mut_array`."),
-    ("X.shuffle(Y, [..])", "X.shuffle(Y, const { simd::Places::new([..]) })", "The compiler computes the places once."),
-    ("#[error(..)]", "an `impl` of `Display` and of `Error`", "The packages don't depend on `thiserror`."),
-    ("u8x16, Word, KeyRef and others", "u8x16<V>, Word<V>, KeyRef<'_, V>", "`V` is the level of the vectors."),
-    ("#[inline(never)] fn", "a call by `V::outlined`", "A function of its own must be compiled for the level."),
-    ("fn", "#[inline(always)] fn", "What jobs reach is compiled for the level only if it is inlined. The files are in `INLINED` of `tools/rust.d/lists.py`."),
+    ("`std::`", "`core::`", "The packages need no operating system. `std::simd` is the package `simd`."),
+    ("`X.as_array::<N>()`", "`simd::array_of::<_, N>(X)`", "Rust 1.85 doesn't have `as_array`, nor `as_mut_array`."),
+    ("`X.shuffle(Y, [..])`", "`X.shuffle(Y, const { simd::Places::new([..]) })`", "The compiler computes the places once."),
+    ("`#[error(..)]`", "an `impl` of `Display` and of `Error`", "The packages don't depend on `thiserror`."),
+    ("`u8x16`, `Word`, `KeyRef` and others", "`u8x16<V>`, `Word<V>`, `KeyRef<'_, V>`", "`V` is the level of the vectors."),
+    ("`#[inline(never)] fn`", "a call by `V::outlined`", "A function of its own must be compiled for the level."),
+    ("`fn`", "`#[inline(always)] fn`", "What jobs reach is compiled for the level only if it is inlined. The files are in `INLINED` of `tools/rust.d/lists.py`."),
 ]
 
 # Types of the vectors, whose operations a level chooses.

@@ -108,12 +108,13 @@ def tables(counts):
     rows += [(f"{of_place(place)[1]} of {of_place(place)[0]}, and its calls", why) for place, why in lists.LAWS.items()]
     yield "Left out:", table(("What", "Why"), rows)
     rows = [("each file" if it.file == "*" else of_place((it.file, ""))[0], f"`{' '.join(it.old.split())}`", f"`{' '.join(it.new.split())}`", it.why) for it in lists.REPLACED]
-    rows += [("each file", f"`{old}`", f"`{new}`", why) for old, new, why in lists.REWRITTEN]
+    rows += [("each file", old, new, why) for old, new, why in lists.REWRITTEN]
     yield "Replaced:", table(("Where", "What", "By", "Why"), rows)
     rows = [(f"`{' '.join(it.what.split())}`", f"{'the block of ' if len(place) > 2 else ''}{of_place(place)[1]} of {of_place(place)[0]}", it.why) for place, it in lists.ADDED.items()]
     yield "Added:", table(("What", "To what", "Why"), rows)
-    rows = [(f"`{path}`", "the import") for path in lists.DROPPED_IMPORTS] + [(f"`{place[1]}`", f"in {of_place(place)[0]}") for place in lists.DROPPED_NAMES]
-    yield "Imports that nothing uses any more:", table(("Name", "Where"), rows)
+    rows = [(f"`{path}`", "each file", why) for path, why in lists.DROPPED_IMPORTS.items()]
+    rows += [(f"`{place[1]}`", of_place(place)[0], why) for place, why in lists.DROPPED_NAMES.items()]
+    yield "Imports that nothing uses any more:", table(("Name", "Where", "Why"), rows)
     rows = [(f"`{place[2]}`", f"`{place[1]}` of {of_place(place)[0]}", why) for place, why in lists.UNDERSCORED.items()]
     yield "Parameters that clauses alone read, which get an underscore:", table(("Parameter", "Of", "Why"), rows)
     rows = [(f"`{owner}`", of_place((file, ""))[0], ", ".join(f"`{name}`" for name in names)) for file, owners in lists.ENTRIES.items() for owner, names in owners.items()]
