@@ -1,6 +1,6 @@
 //! Each call of the vectors beside a plain definition on arrays, at the level of the process, which `at_each_level` lowers.
 
-use simd::{Job, Level, Places, u8x16, u32x4, u64x2};
+use simd::{Job, Level, Places, u8x16, u32x4, u64x2, u64x4};
 
 /// A job that is a function of one level.
 macro_rules! job {
@@ -200,6 +200,42 @@ job!(Words, V, {
     }
 });
 
+/// Returns the numbers of a vector.
+#[inline(always)]
+fn four<V: Level>(vector: u64x4<V>) -> [u64; 4] {
+    let ([a, b], [c, d]) = (
+        vector.extract::<0, 2>().to_array(),
+        vector.extract::<2, 2>().to_array(),
+    );
+    [a, b, c, d]
+}
+
+// Shifts by vectors whose numbers are one number at all places but one.
+job!(OneOther, V, {
+    let mut numbers = drawn(5);
+    for at in (0..4).cycle().take(1000) {
+        let a: [u64; 4] = std::array::from_fn(|_| numbers.next().expect("a number"));
+        let mut by = [numbers.next().expect("a number") % 32; 4];
+        by[at] ^= 1;
+        let [x, n] = [a, by].map(|[a, b, c, d]| {
+            u64x2::<V>::from_array([a, b]).followed_by(u64x2::from_array([c, d]))
+        });
+        assert_eq!(four(x << n), std::array::from_fn(|i| a[i] << by[i]));
+        assert_eq!(four(x >> n), std::array::from_fn(|i| a[i] >> by[i]));
+        let (a, by) = (
+            a.map(|number| number as u32),
+            by.map(|number| number as u32),
+        );
+        let (x, n) = (u32x4::from_array(a), u32x4::from_array(by));
+        assert_eq!((x << n).to_array(), std::array::from_fn(|i| a[i] << by[i]));
+        assert_eq!((x >> n).to_array(), std::array::from_fn(|i| a[i] >> by[i]));
+    }
+});
+
+job!(Widths, V, {
+    assert_eq!(V::HAS_256_BITS, simd::has_256_bits());
+});
+
 /// All jobs, from the highest level to the lowest, in one test, since a level is only lowered.
 #[test]
 fn each_call_at_each_level() {
@@ -210,6 +246,8 @@ fn each_call_at_each_level() {
         simd::run(Permuted);
         simd::run(Numbers);
         simd::run(Words);
+        simd::run(OneOther);
+        simd::run(Widths);
         simd::at_most(count + 1);
         assert_eq!(simd::levels().len(), count, "a level was raised");
     }
@@ -223,4 +261,15 @@ fn wipes_each_byte() {
     let mut bytes = [255u8; 37];
     simd::wipe(&mut bytes);
     assert_eq!(bytes, [0; 37]);
+}
+
+#[test]
+fn wipes_from_each_address() {
+    for at in 0..8 {
+        let mut bytes = [255u8; 64];
+        let part: &mut [u8; 37] = (&mut bytes[at..at + 37]).try_into().expect("37 bytes");
+        simd::wipe(part);
+        let wanted = std::array::from_fn(|i| if (at..at + 37).contains(&i) { 0 } else { 255 });
+        assert_eq!(bytes, wanted);
+    }
 }
