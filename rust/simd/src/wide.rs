@@ -38,12 +38,13 @@ impl<V: Level> u64x4<V> {
     }
 }
 
+/// The operands are exchanged, as those of `u64x2` are.
 impl<V: Level> BitXor for u64x4<V> {
     type Output = Self;
 
     #[inline(always)]
     fn bitxor(self, other: Self) -> Self {
-        Self::of(V::wide_xor(self.numbers, other.numbers))
+        Self::of(V::wide_xor(other.numbers, self.numbers))
     }
 }
 

@@ -166,10 +166,39 @@ impl Level for Ssse3 {
     }
 }
 
+/// Whether bytes at even places stay together with those after them.
+#[inline(always)]
+fn moves_pairs(places: [u8; 16]) -> bool {
+    let mut pairs = places.chunks_exact(2);
+    pairs.all(|pair| pair[0] % 2 == 0 && pair[1] == pair[0] + 1)
+}
+
+/// Returns the same bytes, which the compiler then doesn't know.
+#[inline(always)]
+fn unknown(mut bytes: Bytes) -> Bytes {
+    // SAFETY: no instruction is executed.
+    unsafe {
+        core::arch::asm!("/* {0} */", inout(xmm_reg) bytes, options(pure, nomem, nostack, preserves_flags));
+    }
+    bytes
+}
+
 impl Level for Avx2 {
     const HAS_256_BITS: bool = true;
 
     type Wide = __m256i;
+
+    /// If LLVM knows that pairs are moved within halves, it moves them by two instructions, `vpshuflw` and `vpshufhw`.
+    #[inline(always)]
+    fn permuted_at(table: Bytes, places: [u8; 16]) -> Bytes {
+        let bytes = from_array(places);
+        let places = if moves_pairs(places) {
+            unknown(bytes)
+        } else {
+            bytes
+        };
+        Self::permuted(table, places)
+    }
 
     #[inline(always)]
     fn outlined<C: Call>(call: C) -> C::Output {

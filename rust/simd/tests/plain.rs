@@ -95,6 +95,15 @@ job!(Permuted, V, {
             places.map(|place| a[usize::from(place)])
         );
     }
+    // Pairs of bytes stay together.
+    for by in (0..16).step_by(2) {
+        let a = bytes(&mut numbers);
+        let places: [u8; 16] = std::array::from_fn(|i| (i as u8 + by) % 16);
+        assert_eq!(
+            u8x16::<V>::from_array(a).swizzle(places).to_array(),
+            places.map(|place| a[usize::from(place)])
+        );
+    }
 });
 
 job!(Numbers, V, {
