@@ -138,7 +138,7 @@ class Leveler:
 
     def entry(self, source, it):
         """Returns a function that runs its body as a job, and the body. The job comes after the block, and so does a body that
-        stood in the `impl` of a trait."""
+        stood in the `impl` of a trait. A body that mentions nothing with the level doesn't have it as a parameter."""
         source.used.add((source.path, it.name))
         owner = self.of_block.owner
         job = owner + "".join(part.title() for part in it.name.split("_"))
@@ -146,8 +146,9 @@ class Leveler:
         has_self = len(names) < len(parts(it.parameters))
         result = text_of(it.result).strip()
         body = text_of(self.mentions(source, it.body))
-        at_level = f"\n\n#[inline(always)]\nfn {it.name}_at<{LEVEL}>({text_of(it.parameters)}) {result} {body}"
-        self.of_block.jobs.append(job_of(owner, job, it, has_self, names, result))
+        takes, given = (f"<{LEVEL}>", "::<V>") if self.is_leveled(it.parameters + it.result + it.body) else ("", "")
+        at_level = f"\n\n#[inline(always)]\nfn {it.name}_at{takes}({text_of(it.parameters)}) {result} {body}"
+        self.of_block.jobs.append(job_of(owner, job, it, has_self, names, result, given))
         values = ", ".join((["key: self"] if has_self else []) + names)
         it.body = made(f"{{ simd::run({job} {{ {values} }}) }}")
         if self.of_block.is_trait:
@@ -222,7 +223,7 @@ def name_of(parameter):
     return next(token.text for token in parameter if token.kind == "word" and token.text != "mut")
 
 
-def job_of(owner, job, it, has_self, names, result):
+def job_of(owner, job, it, has_self, names, result, level):
     """Returns the job of an entry: its parameters as fields, and the call of its body at a level."""
     fields = []
     for part in parts(it.parameters):
@@ -237,5 +238,5 @@ def job_of(owner, job, it, has_self, names, result):
     return (
         f"\n\n/// `{owner}::{it.name}` as a job.\nstruct {job}{generics} {{ {', '.join(fields)} }}\n\n"
         f"impl simd::Job for {job}{place} {{ type Output = {output};\n\n#[inline(always)]\n"
-        f"fn run<{LEVEL}>(self){' -> ' + output if result else ''} {{ {called}::<V>({values}){'' if result else ';'} }} }}"
+        f"fn run<{LEVEL}>(self){' -> ' + output if result else ''} {{ {called}{level}({values}){'' if result else ';'} }} }}"
     )

@@ -171,6 +171,23 @@ REPLACED = [
         "A key may have been made at another level. The compiler then leaves out the path that isn't taken at this one.",
     ),
     Replaced(
+        "aead_ciphers_wide/aes/ctr32.rt",
+        "for i in 0..count { let at = BLOCK_LEN * i; add_block(in_out, at, start + at, keystream[i]); }",
+        "let mut sums = keystream; let len = BLOCK_LEN * count; "
+        "for (sum, block) in sums[..count].iter_mut().zip(in_out[start..][..len].chunks_exact(BLOCK_LEN)) { "
+        "*sum = (u8x16::from_slice(block) ^ u8x16::from_array(*sum)).to_array(); } "
+        "in_out[..len].copy_from_slice(sums[..count].as_flattened());",
+        "rustc checks two indices for each block, and leaves a loop over sixteen blocks as it is. Here it checks the lengths once.",
+    ),
+    Replaced(
+        "aead_ciphers_wide/gcm/product.rt",
+        "for k in 0..16 { let at = 16 * (15 - k); let (front, back) = moved_by_one(first, second); "
+        "let bytes = looked_up(table, at, high, low); first = add(front, bytes); second = back; }",
+        "for half in 0..2 { for k in 8 * half..8 * half + 8 { let at = 16 * (15 - k); let (front, back) = moved_by_one(first, second); "
+        "let bytes = looked_up(table, at, high, low); first = add(front, bytes); second = back; } }",
+        "rustc leaves a loop of sixteen turns as it is, and unrolls one of eight.",
+    ),
+    Replaced(
         "aead_ciphers_wide/word/wider.rt",
         "low.lanes.shuffle(high.lanes, [0, 1, 2, 3])",
         "low.lanes.followed_by(high.lanes)",
@@ -198,6 +215,7 @@ LEVELED_TYPES = {
 }
 # The calls that choose a level, each of which is a job of `simd`.
 ENTRIES = {
+    "aead_ciphers_base/chacha.rt": {"Key": ("encrypt", "new_mask")},
     "aead_ciphers_wide/aes/block_key.rt": {"BlockKey": ("new", "new_mask")},
     "aead_ciphers_wide/aes_gcm.rt": {
         "ExpandedKey": (
@@ -218,6 +236,8 @@ ENTRIES = {
 }
 # The files whose functions jobs reach: each is inlined, since only then it is compiled for the level of the job.
 INLINED = (
+    "aead_ciphers_base/chacha.rt",
+    "aead_ciphers_base/chacha/",
     "aead_ciphers_base/aes.rt",
     "aead_ciphers_base/aes/",
     "aead_ciphers_base/bb.rt",

@@ -43,6 +43,7 @@ const CONSTANTS: [u32; 4] = [0x6170_7865, 0x3320_646e, 0x7962_2d32, 0x6b20_6574]
 /// Writes words in little-endian order.
 // requires { length bytes.old ≡ 4 * length words.now }
 // ensures { bytes.new ≡ le_bytes words.now }
+#[inline(always)]
 fn write_le_bytes(words: &[u32], bytes: &mut [u8]) {
     for i in 0..words.len() {
         bytes[4 * i..4 * i + 4].copy_from_slice(&words[i].to_le_bytes());
@@ -52,6 +53,7 @@ fn write_le_bytes(words: &[u32], bytes: &mut [u8]) {
 /// Reads words in little-endian order.
 // requires { length bytes.now ≡ 4 * N }
 // ensures { result ≡ le_words bytes.now }
+#[inline(always)]
 fn le_words<const N: usize>(bytes: &[u8]) -> [u32; N] {
     let mut words = [0; N];
     for i in 0..N {
@@ -68,6 +70,7 @@ fn le_words<const N: usize>(bytes: &[u8]) -> [u32; N] {
 // ensures { in_out.new ≡ take at in_out.old
 //     ++ (take n (drop (start + at) in_out.old) ⊕ stream.entry)
 //     ++ drop (at + n) in_out.old }
+#[inline(always)]
 fn xor_stream<const N: usize>(
     in_out: &mut [u8],
     start: usize,
@@ -124,6 +127,7 @@ impl Counter {
     /// ```
     ///
     /// </details>
+    #[inline(always)]
     pub fn from_nonce_and_ctr(nonce: Nonce, ctr: u32) -> Self {
         let [n0, n1, n2] = le_words::<3>(nonce.as_ref());
         Counter {
@@ -141,6 +145,7 @@ impl Counter {
     /// ```
     ///
     /// </details>
+    #[inline(always)]
     pub fn zero_one_less_safe(nonce: Nonce) -> (Self, Self) {
         let zero = Self::from_nonce_and_ctr(nonce, 0);
         let [_, n0, n1, n2] = zero.words;
@@ -162,6 +167,7 @@ impl Counter {
     /// Definitions: [`le_words`](crate::specs::cha_cha20#le_words).
     ///
     /// </details>
+    #[inline(always)]
     pub fn into_words_less_safe(self) -> [u32; 4] {
         self.words
     }
@@ -225,6 +231,7 @@ impl Key {
     /// ```
     ///
     /// </details>
+    #[inline(always)]
     pub fn new(value: [u8; KEY_LEN]) -> Self {
         Key {
             words: le_words(&value),
@@ -242,6 +249,7 @@ impl Key {
     /// Definitions: [`le_words`](crate::specs::cha_cha20#le_words).
     ///
     /// </details>
+    #[inline(always)]
     pub fn words_less_safe(&self) -> &[u32; 8] {
         &self.words
     }
@@ -268,6 +276,15 @@ impl Key {
     ///
     /// </details>
     pub fn encrypt(&self, counter: Counter, in_out: Overlapping<'_>) {
+        simd::run(KeyEncrypt {
+            key: self,
+            counter,
+            in_out,
+        })
+    }
+
+    #[inline(always)]
+    fn encrypt_at(&self, counter: Counter, in_out: Overlapping<'_>) {
         let Overlapping { in_out, start } = in_out;
         self.encrypt_within(&counter, in_out, start);
     }
@@ -286,6 +303,7 @@ impl Key {
     /// Definitions: [`chacha20_encrypted`](crate::specs::cha_cha20#chacha20_encrypted).
     ///
     /// </details>
+    #[inline(always)]
     pub fn encrypt_single_block_with_ctr_0<const N: usize>(
         &self,
         nonce: Nonce,
@@ -308,6 +326,11 @@ impl Key {
     ///
     /// </details>
     pub fn new_mask(&self, sample: Sample) -> [u8; 5] {
+        simd::run(KeyNewMask { key: self, sample })
+    }
+
+    #[inline(always)]
+    fn new_mask_at(&self, sample: Sample) -> [u8; 5] {
         let counter = Counter {
             words: le_words(&sample),
         };
@@ -323,6 +346,7 @@ impl Key {
     // ensures { let input = drop start in_out.old in
     //     in_out.new ≡ chacha20_encrypted self.now counter.now.number counter.now.nonce input
     //     ++ drop (length input) in_out.old }
+    #[inline(always)]
     fn encrypt_within(&self, counter: &Counter, in_out: &mut [u8], start: usize) {
         let len = in_out.len() - start;
         let mut j = 0;
@@ -349,6 +373,7 @@ impl Key {
     /// Returns block `j` of the keystream after the counter.
     // requires { counter.now.number + j < 2 ^ 32 }
     // ensures { result ≡ chacha20_block self.now (counter.now.number + j) counter.now.nonce }
+    #[inline(always)]
     fn keystream_block(&self, counter: &Counter, j: u32) -> [u8; BLOCK_LEN] {
         state_block(&self.initial_state(counter, j))
     }
@@ -356,6 +381,7 @@ impl Key {
     /// Returns four blocks of the keystream, from block `j` after the counter on.
     // requires { counter.now.number + j + 4 ≤ 2 ^ 32 }
     // ensures { result ≡ each_below BATCH_LEN (stream_byte self.now (counter.now.number + j) counter.now.nonce) }
+    #[inline(always)]
     fn four_keystream_blocks(&self, counter: &Counter, j: u32) -> [u8; BATCH_LEN] {
         let words = lanes::four_blocks(&self.initial_state(counter, j));
         let mut bytes = [0; BATCH_LEN];
@@ -370,6 +396,7 @@ impl Key {
     // ensures word_12 { slice_index result 12 ≡ counter.now.number + j }
     // ensures counter_in_word_12 { (n : ℕ) → slice_set result 12 n
     //     ≡ initial_state self.now n counter.now.nonce }
+    #[inline(always)]
     fn initial_state(&self, counter: &Counter, j: u32) -> State {
         let [c0, c1, c2, c3] = CONSTANTS;
         let [k0, k1, k2, k3, k4, k5, k6, k7] = self.words;
@@ -378,5 +405,36 @@ impl Key {
         [
             c0, c1, c2, c3, k0, k1, k2, k3, k4, k5, k6, k7, ctr, n0, n1, n2,
         ]
+    }
+}
+
+/// `Key::encrypt` as a job.
+struct KeyEncrypt<'a> {
+    key: &'a Key,
+    counter: Counter,
+    in_out: Overlapping<'a>,
+}
+
+impl simd::Job for KeyEncrypt<'_> {
+    type Output = ();
+
+    #[inline(always)]
+    fn run<V: simd::Level>(self) {
+        self.key.encrypt_at(self.counter, self.in_out);
+    }
+}
+
+/// `Key::new_mask` as a job.
+struct KeyNewMask<'a> {
+    key: &'a Key,
+    sample: Sample,
+}
+
+impl simd::Job for KeyNewMask<'_> {
+    type Output = [u8; 5];
+
+    #[inline(always)]
+    fn run<V: simd::Level>(self) -> [u8; 5] {
+        self.key.new_mask_at(self.sample)
     }
 }

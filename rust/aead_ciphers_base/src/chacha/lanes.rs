@@ -64,6 +64,7 @@ fn double_round(x: States) -> States {
 /// Returns four copies of a state, whose block counters (word 12) count up from its own.
 // ensures { (j : ℕ) → j < 4
 //     → lane j result ≡ slice_set state.now 12 (add32 (slice_index state.now 12) j) }
+#[inline(always)]
 fn four_states(state: &State) -> States {
     [
         u32x4::splat(state[0]),
@@ -91,6 +92,7 @@ fn four_states(state: &State) -> States {
 //     let counted = slice_set state.now 12 (add32 (slice_index state.now 12) j) in
 //     slice_index result (16 * j + k)
 //     ≡ slice_index (zip2 add32 (iterate double_round 10 counted) counted) k }
+#[inline(always)]
 pub(super) fn four_blocks(state: &State) -> [u32; 64] {
     let states = four_states(state);
     let mut x = states;

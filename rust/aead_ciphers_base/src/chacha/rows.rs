@@ -28,6 +28,7 @@ fn double_round(a: u32x4, b: u32x4, c: u32x4, d: u32x4) -> (u32x4, u32x4, u32x4,
 
 /// Computes the block of an initial state.
 // ensures { result ≡ state_block state.now }
+#[inline(always)]
 pub(super) fn state_block(state: &State) -> [u8; BLOCK_LEN] {
     let a = u32x4::from_slice(&state[..4]);
     let b = u32x4::from_slice(&state[4..8]);

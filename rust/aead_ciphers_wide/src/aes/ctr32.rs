@@ -256,10 +256,15 @@ fn add_keystream<const N: usize, V: simd::Level>(
     keystream: [Block; N],
     count: usize,
 ) {
-    for i in 0..count {
-        let at = BLOCK_LEN * i;
-        add_block::<V>(in_out, at, start + at, keystream[i]);
+    let mut sums = keystream;
+    let len = BLOCK_LEN * count;
+    for (sum, block) in sums[..count]
+        .iter_mut()
+        .zip(in_out[start..][..len].chunks_exact(BLOCK_LEN))
+    {
+        *sum = (u8x16::<V>::from_slice(block) ^ u8x16::<V>::from_array(*sum)).to_array();
     }
+    in_out[..len].copy_from_slice(sums[..count].as_flattened());
 }
 
 /// Adds `block` to the block at `from`, and writes the sum to `at`.

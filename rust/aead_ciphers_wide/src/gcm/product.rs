@@ -42,12 +42,14 @@ pub(crate) fn product<V: simd::Level>(table: &[u8; 512], block: u8x16<V>) -> u8x
     let (high, low) = digits(block);
     let mut first = u8x16::<V>::splat(0);
     let mut second = u8x16::<V>::splat(0);
-    for k in 0..16 {
-        let at = 16 * (15 - k);
-        let (front, back) = moved_by_one(first, second);
-        let bytes = looked_up(table, at, high, low);
-        first = add(front, bytes);
-        second = back;
+    for half in 0..2 {
+        for k in 8 * half..8 * half + 8 {
+            let at = 16 * (15 - k);
+            let (front, back) = moved_by_one(first, second);
+            let bytes = looked_up(table, at, high, low);
+            first = add(front, bytes);
+            second = back;
+        }
     }
     reduced(first, second)
 }
