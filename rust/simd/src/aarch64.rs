@@ -2,7 +2,8 @@
 
 use core::arch::aarch64::*;
 
-use crate::level::{Call, Job, Level, Sealed, in_halves};
+use crate::level::{Call, Job, Level, Sealed, in_halves, joined};
+use crate::vectors::Places;
 
 /// 128 bits.
 pub type Bytes = uint8x16_t;
@@ -140,6 +141,23 @@ pub fn rotated_words<const N: usize>(a: Bytes) -> Bytes {
     }
 }
 
+/// The sixteen bytes from `from` on, which is at most 16, in the two vectors, one after the other.
+#[inline(always)]
+fn in_a_row(first: Bytes, second: Bytes, from: u8) -> Bytes {
+    /// An arm for each number, which the instruction has as a constant.
+    macro_rules! arms {
+        ($($n:literal)*) => {
+            match from {
+                0 => first,
+                // SAFETY: the compilation is for processors with NEON.
+                $($n => unsafe { vextq_u8::<$n>(first, second) },)*
+                _ => second,
+            }
+        };
+    }
+    arms!(1 2 3 4 5 6 7 8 9 10 11 12 13 14 15)
+}
+
 /// NEON.
 #[derive(Clone, Copy)]
 pub struct Neon;
@@ -158,6 +176,15 @@ impl Level for Neon {
     fn permuted(table: Bytes, places: Bytes) -> Bytes {
         // SAFETY: the compilation is for processors with NEON.
         unsafe { vqtbl1q_u8(table, places) }
+    }
+
+    /// LLVM doesn't know what a permutation by a table does, so the instruction for places in a row is named here.
+    #[inline(always)]
+    fn shuffled(first: Bytes, second: Bytes, places: Places) -> Bytes {
+        match places.from {
+            Some(from) => in_a_row(first, second, from),
+            None => joined::<Self>(first, second, places),
+        }
     }
 }
 

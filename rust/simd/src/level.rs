@@ -1,6 +1,7 @@
 //! The trait of levels, and the trait of what is run at one.
 
 use crate::processor::{self, Bytes};
+use crate::vectors::Places;
 
 /// What `Level` is implemented for is decided here.
 pub trait Sealed {}
@@ -30,6 +31,13 @@ pub trait Level: Sealed + Copy + 'static {
         Self::permuted(table, processor::from_array(places))
     }
 
+    /// The bytes at these places in the two vectors, one after the other.
+    #[doc(hidden)]
+    #[inline(always)]
+    fn shuffled(first: Bytes, second: Bytes, places: Places) -> Bytes {
+        joined::<Self>(first, second, places)
+    }
+
     #[doc(hidden)]
     fn wide(low: Bytes, high: Bytes) -> Self::Wide;
 
@@ -47,6 +55,14 @@ pub trait Level: Sealed + Copy + 'static {
 
     #[doc(hidden)]
     fn wide_shr(a: Self::Wide, n: u32) -> Self::Wide;
+}
+
+/// Joins a permutation of each vector. Each byte is zero in one of them: LLVM makes one instruction of both and their OR, such as
+/// `palignr`, and doesn't of their XOR.
+#[inline(always)]
+pub fn joined<V: Level>(first: Bytes, second: Bytes, places: Places) -> Bytes {
+    let here = V::permuted_at(first, places.here);
+    processor::or(here, V::permuted_at(second, places.there))
 }
 
 /// What [`run`](crate::run) runs at the level of the processor.

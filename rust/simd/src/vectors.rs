@@ -29,8 +29,13 @@ pub struct u64x2<V> {
 /// They are made by a constant expression, so that nothing is computed when the program runs.
 #[derive(Clone, Copy)]
 pub struct Places {
-    here: [u8; 16],
-    there: [u8; 16],
+    /// The places in the first vector, and above 127 where there is none.
+    pub(crate) here: [u8; 16],
+    /// The places in the second vector, and above 127 where there is none.
+    pub(crate) there: [u8; 16],
+    /// The first place, if the others come after it in a row.
+    #[allow(dead_code)] // NEON alone reads it
+    pub(crate) from: Option<u8>,
 }
 
 impl Places {
@@ -41,9 +46,11 @@ impl Places {
     /// Panics if one of them is above 31.
     pub const fn new(places: [u8; 16]) -> Self {
         let (mut here, mut there) = ([128; 16], [128; 16]);
+        let mut is_row = true;
         let mut i = 0;
         while i < 16 {
             assert!(places[i] < 32);
+            is_row &= places[i] as usize == places[0] as usize + i;
             if places[i] < 16 {
                 here[i] = places[i];
             } else {
@@ -51,7 +58,8 @@ impl Places {
             }
             i += 1;
         }
-        Places { here, there }
+        let from = if is_row { Some(places[0]) } else { None };
+        Places { here, there, from }
     }
 }
 
@@ -119,13 +127,9 @@ impl<V: Level> u8x16<V> {
     }
 
     /// Returns the byte at each place in the two vectors, one after the other. The places are no secret.
-    ///
-    /// Each byte is zero in one of the two that are joined. LLVM makes one instruction of both and their OR, such as `palignr`, and
-    /// doesn't of their XOR.
     #[inline(always)]
     pub fn shuffle(self, other: Self, places: Places) -> Self {
-        let (here, there) = (self.swizzle(places.here), other.swizzle(places.there));
-        Self::of(processor::or(here.bytes, there.bytes))
+        Self::of(V::shuffled(self.bytes, other.bytes, places))
     }
 
     /// Returns the difference of zero and each byte, modulo 256.

@@ -95,6 +95,13 @@ job!(Permuted, V, {
             places.map(|place| a[usize::from(place)])
         );
     }
+    for from in 0..=16 {
+        let (a, b) = (bytes(&mut numbers), bytes(&mut numbers));
+        let places = Places::new(std::array::from_fn(|i| (from + i) as u8));
+        let both: Vec<u8> = a.into_iter().chain(b).collect();
+        let found = u8x16::<V>::from_array(a).shuffle(u8x16::from_array(b), places);
+        assert_eq!(found.to_array(), both[from..from + 16]);
+    }
     // Pairs of bytes stay together.
     for by in (0..16).step_by(2) {
         let a = bytes(&mut numbers);
