@@ -275,13 +275,45 @@ macro_rules! has {
     }};
 }
 
+/// The functions of a level: whether the processor has these features, and a job and a call that are compiled for them.
+macro_rules! functions {
+    ($level:ident, $has:ident, $run:ident, $call:ident: $($feature:tt),*) => {
+        /// Returns whether a job can run at the level.
+        fn $has() -> bool {
+            has!($($feature),*)
+        }
+
+        /// Runs a job at the level.
+        ///
+        /// # Safety
+        ///
+        /// The processor must have the features.
+        #[target_feature($(enable = $feature),*)]
+        unsafe fn $run<J: Job>(job: J) -> J::Output {
+            job.run::<$level>()
+        }
+
+        /// Makes a call at the level.
+        ///
+        /// # Safety
+        ///
+        /// The processor must have the features.
+        #[target_feature($(enable = $feature),*)]
+        #[inline(never)]
+        unsafe fn $call<C: Call>(call: C) -> C::Output {
+            call.call()
+        }
+    };
+}
+
+functions!(Avx2, has_avx2, run_avx2, call_avx2: "avx2", "bmi1", "bmi2", "fma", "lzcnt", "movbe", "popcnt", "sse4.2", "ssse3");
+functions!(Ssse3, has_ssse3, run_ssse3, call_ssse3: "popcnt", "sse4.2", "ssse3");
+
 #[cold]
 fn ask() -> u8 {
-    let level = if has!(
-        "avx2", "bmi1", "bmi2", "fma", "lzcnt", "movbe", "popcnt", "sse4.2", "ssse3"
-    ) {
+    let level = if has_avx2() {
         AVX2
-    } else if has!("popcnt", "sse4.2", "ssse3") {
+    } else if has_ssse3() {
         SSSE3
     } else {
         0
@@ -329,46 +361,4 @@ pub fn run<J: Job>(job: J) -> J::Output {
         SSSE3 => unsafe { run_ssse3(job) },
         _ => job.run::<Sse2>(),
     }
-}
-
-/// Runs a job by AVX2.
-///
-/// # Safety
-///
-/// The processor must have the features.
-#[target_feature(enable = "avx2,bmi1,bmi2,fma,lzcnt,movbe,popcnt,sse4.2,ssse3")]
-unsafe fn run_avx2<J: Job>(job: J) -> J::Output {
-    job.run::<Avx2>()
-}
-
-/// Runs a job by SSSE3.
-///
-/// # Safety
-///
-/// The processor must have the features.
-#[target_feature(enable = "popcnt,sse4.2,ssse3")]
-unsafe fn run_ssse3<J: Job>(job: J) -> J::Output {
-    job.run::<Ssse3>()
-}
-
-/// Makes a call by AVX2.
-///
-/// # Safety
-///
-/// The processor must have the features.
-#[target_feature(enable = "avx2,bmi1,bmi2,fma,lzcnt,movbe,popcnt,sse4.2,ssse3")]
-#[inline(never)]
-unsafe fn call_avx2<C: Call>(call: C) -> C::Output {
-    call.call()
-}
-
-/// Makes a call by SSSE3.
-///
-/// # Safety
-///
-/// The processor must have the features.
-#[target_feature(enable = "popcnt,sse4.2,ssse3")]
-#[inline(never)]
-unsafe fn call_ssse3<C: Call>(call: C) -> C::Output {
-    call.call()
 }
