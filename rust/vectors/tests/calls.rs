@@ -149,6 +149,54 @@ fn opens_from_each_start() {
 }
 
 #[test]
+fn opens_packets() {
+    levels::enter();
+    let drawn = &mut Drawn::new(7);
+    for len in LENGTHS {
+        let case = case(drawn, len);
+        let (ciphertext, tag) = case.sealed();
+        let packet = [&case.aad[..], &ciphertext, &tag].concat();
+        let header_len = case.aad.len();
+        let mut buffer = packet.clone();
+        let count =
+            case.key
+                .open_packet_in_place_after_header(case.nonce(), &mut buffer, header_len);
+        assert_eq!(count, Ok(len));
+        assert_eq!(buffer, [&case.aad[..], &case.message, &tag].concat());
+
+        let mut buffer = packet.clone();
+        for header_len in [header_len + 1, packet.len() - 15, packet.len() + 1] {
+            assert!(
+                case.key
+                    .open_packet_in_place_after_header(case.nonce(), &mut buffer, header_len)
+                    .is_err()
+            );
+        }
+        assert_eq!(buffer, packet);
+    }
+}
+
+#[test]
+fn opens_to_another_buffer() {
+    levels::enter();
+    let drawn = &mut Drawn::new(8);
+    for len in LENGTHS {
+        let case = case(drawn, len);
+        let (ciphertext, tag) = case.sealed();
+        let mut out = vec![1; len];
+        let mut open = |tag: [u8; 16]| {
+            let tag = Tag::from(tag);
+            let opened = case
+                .key
+                .open_to(case.nonce(), case.aad(), tag, &ciphertext, &mut out);
+            (opened.is_ok(), out.clone())
+        };
+        assert_eq!(open(tag.map(|byte| !byte)), (false, vec![1; len]));
+        assert_eq!(open(tag), (true, case.message.clone()), "{len} bytes");
+    }
+}
+
+#[test]
 fn refuses_and_changes_nothing() {
     levels::enter();
     let drawn = &mut Drawn::new(3);

@@ -1,6 +1,7 @@
-//! What keys have beside ciphertexts and tags: clones, tallies of work, derived keys, and the width of planes.
+//! What keys have beside ciphertexts and tags: clones, tallies of work, limits of lengths, derived keys, the width of planes, and
+//! what an expansion leaves of an older key.
 
-use aead_ciphers::aes_gcm;
+use aead_ciphers::{aes_gcm, gcm};
 use deerlapse::aead::{AES_256_GCM, Aad, LessSafeKey, Nonce, Tag, UnboundKey};
 use deerlapse::aes_gcm::{ExpandedKey, GcmKey, KeyBytes, Width, Work};
 use deerlapse::xaes::{XNonce, Xaes256Gcm};
@@ -89,6 +90,15 @@ fn counts_work_of_each_key() {
     counts_work::<aes_gcm::ExpandedKey>();
 }
 
+/// The limits of SP 800-38D section 5.2.1.1, in bytes.
+#[test]
+fn limits_of_lengths() {
+    let (aad, message) = ((1 << 61) - 1, (1 << 36) - 32);
+    assert!(gcm::fits(aad, message));
+    assert!(!gcm::fits(aad + 1, 0));
+    assert!(!gcm::fits(0, message + 1));
+}
+
 #[test]
 fn derived_blocks_are_in_order() {
     levels::enter();
@@ -112,6 +122,18 @@ fn planes_are_as_wide_as_the_vectors() {
     let width = if simd::has_256_bits() { 256 } else { 128 };
     assert_eq!(Width::of_processor().bits(), width);
     assert_eq!(less_safe_key().expanded().width, width);
+}
+
+#[test]
+fn nothing_of_an_older_key_stays() {
+    levels::enter();
+    let fields = |key: &ExpandedKey| {
+        let (planes, round_keys) = (key.planes.concat(), key.round_keys.concat());
+        (planes, round_keys, key.rounds, key.products, key.squares)
+    };
+    let mut key = expanded::<ExpandedKey>(&[7; 32]);
+    key.expand(KeyBytes::AES_128(&[9; 16]), &mut Work::new());
+    assert_eq!(fields(&key), fields(&expanded(&[9; 16])));
 }
 
 #[test]

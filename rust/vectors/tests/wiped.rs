@@ -2,6 +2,8 @@
 
 use std::mem::MaybeUninit;
 
+use aead_ciphers::gcm;
+use aead_ciphers_base::aes::{self, KeyBytes};
 use deerlapse::aead::quic::{self, HeaderProtectionKey};
 use deerlapse::aead::{AES_256_GCM, Aad, LessSafeKey, Nonce, UnboundKey};
 use deerlapse::chacha;
@@ -37,6 +39,8 @@ fn keys_are_wiped() {
     is_wiped(HeaderProtectionKey::new(&quic::AES_256, &[0xa5; 32]).expect("a key of its length"));
     is_wiped(chacha::Key::new([0xa5; 32]));
     is_wiped(aead_ciphers::aead::LessSafeKey::new(unbound()));
+    is_wiped(aes::Key::new(KeyBytes::AES_256(&[0xa5; 32])).expect("a key"));
+    is_wiped(gcm::Key::new(gcm::KeyValue::new([0xa5; 16])));
 }
 
 #[test]
