@@ -45,8 +45,8 @@
 //!   (`view`), and what holds of the fields of each value (`invariant`). `a ≡ b` compares the models, and a and b may be of two
 //!   types. Of other types, a contract sees the fields. Their section *Invariant*, if they have one, shows what holds of these.
 //! - `N.spent` is a *ghost item* of the trait that the type parameter `N` implements, and exists for contracts alone. The
-//!   section *Ghost items* of the trait shows its type and what it stands for, and that of an `impl` shows its definition for
-//!   one type. A ghost item whose type begins with `(x : A) →` is a fact, of which each `impl` has a proof.
+//!   section *Ghost items* of the trait has its type and says what it means, and that of an `impl` has its definition for one
+//!   type. A ghost item whose type begins with `(x : A) →` is a fact, of which each `impl` has a proof.
 //!
 //! The links under *Definitions* lead to the definitions that a contract cites. They are in [`specs`], or in the module of this
 //! name of a package below this one. [`specs`](specs#words) explains the words that are left. `docs/BELIEVE.md` of the
