@@ -1,6 +1,7 @@
 """What a written source must not have: a construct that no list names, an import or a private name that nothing uses."""
 
 import collections
+import re
 
 import lists
 from items import items
@@ -15,14 +16,15 @@ WORDS_OF_RATTLE = {"ghost", "requires", "ensures", "prove", "tactic", "rt", "std
 KEYWORDS = {"self", "crate", "super", "as", "pub", "use"}
 
 
-def check(path, text, traits):
+def check(crate, path, text, traits):
     """Fails at the first construct of a written source that no list names."""
     found = tokens(text)
+    refused = WORDS_OF_RATTLE - {"std"} | lists.ENDING if crate in lists.WITH_STD else WORDS_OF_RATTLE
     for at, token in enumerate(found):
         if token.kind in TRIVIA or token.kind in ("string", "char"):
             continue
-        if token.text in WORDS_OF_RATTLE or not token.text.isascii():
-            raise Fault(f"{path}:{token.line}: `{token.text}` is left, which is of Rattle")
+        if token.text in refused or not token.text.isascii():
+            raise Fault(f"{path}:{token.line}: `{token.text}` is left, which Rust must not have")
         if token.text == "!" and at and found[at - 1].kind == "word" and found[at + 1].text in "([{":
             if found[at - 1].text not in MACROS:
                 raise Fault(f"{path}:{token.line}: the macro `{found[at - 1].text}!` is in no list")
@@ -48,6 +50,7 @@ def unused_imports(found, traits):
     used = collections.Counter()
     for item in rest:
         used.update(words_of(item.tokens))
+        used.update(name for token in item.tokens if token.kind == "string" for name in re.findall(r"\{(\w+)", token.text))
     for name, line in imported:
         if not used[name] and not any(used[function] for function in traits.get(name, ())):
             yield name, line

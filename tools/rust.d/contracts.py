@@ -81,10 +81,11 @@ def message_of(variant):
 def impls_of(name, rows):
     arms = ""
     for variant, text, fields in rows:
-        if fields:
+        if "{0}" in text:
             arms += f"{name}::{variant}(it) => write!(f, {text.replace('{0}', '{it}')}),\n"
         else:
-            arms += f"{name}::{variant} => f.write_str({text}),\n"
+            ignored = {"{": " { .. }", "(": "(..)"}.get(fields[:1], "")
+            arms += f"{name}::{variant}{ignored} => f.write_str({text}),\n"
     return (
         f"\n\nimpl core::fmt::Display for {name} {{\n"
         f"fn fmt(&self, f: &mut core::fmt::Formatter<'_>) -> core::fmt::Result {{ match self {{\n{arms}}} }}\n}}\n\n"

@@ -13,6 +13,8 @@ IMPORT = re.compile(r"\buse ([\w.]+)(?:\.\{([^}]*)\}| as (\w+))")
 # A file of definitions. The module `declared` has the types of a crate, which mean themselves.
 FILE = re.compile(r"Rattle\.(\w+)\.specs\.(\w+)")
 DECLARED = re.compile(r"Rattle\.\w+\.specs\.declared\.")
+# An import by which a file writes `specs.FILE` for the path of a file.
+TOP_OF_SPECS = re.compile(r"^use Rattle\.(\w+)\.specs$", re.MULTILINE)
 # The line that begins a definition. A line `pub NAME :` below the head of a record is a field.
 DEFINED = re.compile(r" *(?:(?:abbrev|unfoldable) pub|pub (?:record|data)|pub) (\S+)")
 # The left side of an equation.
@@ -92,7 +94,9 @@ def module_of(file):
 
 def imported(text):
     """Yields the names that imports make, each with what it means. Types of the crates mean themselves."""
+    top = TOP_OF_SPECS.search(text)
     for path, names, alias in IMPORT.findall(text):
+        path = f"Rattle.{top[1]}.{path}" if top and path.startswith("specs.") else path
         match = FILE.fullmatch(path)
         file = File(*match.groups()) if match and match[1] in lists.CRATES else None
         if alias and file:

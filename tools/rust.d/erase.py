@@ -107,7 +107,7 @@ def replaced(source, tokens):
             tokens, count = replaced_text(tokens, it.old, it.new)
             if count:
                 source.used.add(number)
-            if it.file != "*" and count > 1:
+            if it.file != "*" and count > it.times:
                 raise source.fault(0, f"`{it.old}` stands more than once")
     return shuffles(arrays(tokens))
 
@@ -188,8 +188,29 @@ def shuffles(tokens):
     return [token._replace(text="shuffle") if token.text == "SHUFFLE" else token for token in rest]
 
 
+def growing(source, tokens):
+    """Returns the tokens with the calls of a `Vec` that may fail, where the crate has an allocator."""
+    if source.crate not in lists.WITH_STD:
+        return tokens
+    return [
+        token._replace(text=lists.GROWING[token.text]) if token.text in lists.GROWING and at and tokens[at - 1].text == "." else token
+        for at, token in enumerate(tokens)
+    ]
+
+
+def is_allocator(tokens, at):
+    """Returns whether the argument `alloc` of a call is at `at`."""
+    return tokens[at].text == "alloc" and tokens[last_of(tokens, at - 1)].text in "(," and tokens[next_of(tokens, at + 1)].text in "),"
+
+
+def is_unused_label(tokens, at):
+    """Returns whether the label of a loop is at `at`, by which nothing leaves the loop."""
+    label = tokens[at].text
+    return label.startswith("'") and tokens[at + 1].text == ":" and sum(token.text == label for token in tokens) == 1
+
+
 def executed(source, body):
-    """Returns a body without the calls of laws and without the clauses of closures."""
+    """Returns a body without the calls of laws, the clauses of closures, labels that nothing uses, and allocators as arguments."""
     names = {name for path, name in lists.LAWS if path.split("/")[0] == source.crate}
     kept, at = [], 0
     while at < len(body):
@@ -199,6 +220,13 @@ def executed(source, body):
         elif body[at].text in CLAUSES and body[at].kind == "word":
             source.count("clause")
             at = next_of(body, clause_end(body, at)[1])
+        elif is_unused_label(body, at):
+            source.count("label")
+            at = next_of(body, at + 2)
+        elif is_allocator(body, at):
+            source.count("allocator")
+            after = next_of(body, at + 1)
+            at = next_of(body, after + 1) if body[after].text == "," else after
         else:
             kept.append(body[at])
             at += 1
@@ -215,7 +243,10 @@ def parameters(source, it):
     kept = []
     for parameter in parts(it.parameters):
         name = parameter_name(parameter)
-        if it.body[0].text == "{" and name != "self":
+        if name == "alloc":
+            source.count("allocator")
+            continue
+        if it.body[0].text == "{" and name != "self" and not name.startswith("_"):
             key = (source.path, it.name, name)
             is_read = name in words_of(it.body)
             if is_read == (key in lists.UNDERSCORED):
@@ -376,13 +407,13 @@ class Writer:
         tokens = self.imported(item)
         if not tokens:
             return text_of(kept_lead(item.lead))
-        text = text_of(tokens).replace("std::simd::", "simd::")
-        return text_of(item.lead) + re.sub(r"\bstd::", "core::", text)
+        text = text_of(tokens).replace("std::simd::", "simd::").replace("std::alloc::", "deerlapse::memory::")
+        return text_of(item.lead) + (text if self.source.crate in lists.WITH_STD else re.sub(r"\bstd::", "core::", text))
 
     def imported(self, item):
         """Returns the tokens of an import without the names that nothing uses any more, or nothing if no other is left."""
         path = text_of([token for token in item.tokens if token.kind not in TRIVIA]).removeprefix("use").removesuffix(";")
-        if path in lists.DROPPED_IMPORTS:
+        if path in lists.DROPPED_IMPORTS and not (self.source.crate in lists.WITH_STD and path == "std::alloc::AllocError"):
             self.source.used.add(path)
             return []
         brace = next((at for at, token in enumerate(item.tokens) if token.text == "{"), None)
@@ -532,5 +563,7 @@ class Writer:
         return self.documented(lead, "Contract", shown, [clause.tokens for clause in clauses], arguments)
 
     def rewritten(self, tokens):
-        tokens = [token._replace(text="core") if token.text == "std" else token for token in replaced(self.source, tokens)]
+        tokens = growing(self.source, replaced(self.source, tokens))
+        if self.source.crate not in lists.WITH_STD:
+            tokens = [token._replace(text="core") if token.text == "std" else token for token in tokens]
         return self.leveler.mentions(self.source, tokens)

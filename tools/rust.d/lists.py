@@ -11,21 +11,42 @@ class Entry(typing.NamedTuple):
 
 
 class Replaced(typing.NamedTuple):
-    """A text of one file, or of each, that stands for another."""
+    """A text of one file, or of each, that stands for another, and how often it stands in the file."""
 
     file: str
     old: str
     new: str
     why: str
+    times: int = 1
 
 
-# The crates, each with those that it stands on, and whether its functions take a level of vectors.
+# The crates, each with those that it stands on.
 CRATES = {
     "aead_ciphers_base": (),
     "aead_ciphers": ("aead_ciphers_base",),
     "aead_ciphers_wide": ("aead_ciphers_base", "aead_ciphers"),
     "xaes": ("aead_ciphers_base", "aead_ciphers", "aead_ciphers_wide"),
     "tls_messages": (),
+    "key_derivation": ("aead_ciphers_base",),
+    "quic_packets": ("aead_ciphers_base", "aead_ciphers", "aead_ciphers_wide", "key_derivation"),
+    "records": ("aead_ciphers_base", "aead_ciphers", "aead_ciphers_wide", "key_derivation", "tls_messages"),
+    "sealed_file": ("aead_ciphers_base", "aead_ciphers", "aead_ciphers_wide", "xaes", "key_derivation"),
+}
+# Those of the workspace rust/protocols, which stand on RustCrypto's `sha2`.
+PROTOCOLS = ("key_derivation", "quic_packets", "records", "sealed_file")
+# Those that need an allocator, and so the standard library.
+WITH_STD = ("records", "sealed_file")
+
+
+def folder(crate):
+    """Returns the folder of a crate below rust/."""
+    return f"protocols/{crate}" if crate in PROTOCOLS else crate
+
+
+# Files that are written by hand, in place of those of the same name or beside them.
+BY_HAND = {
+    "key_derivation/hash.rs": "RustCrypto's traits have other names and types than those of Rattle's `sha2`",
+    "key_derivation/suite_key.rs": "in Rattle, `ArrayVec` holds a key; the packages have no dependency but `sha2`",
 }
 
 # What is deleted wherever it stands. The names are those by which the program counts.
@@ -39,6 +60,8 @@ DELETED = {
     "model": Entry("`impl Model for ..`", "It says which value contracts see in a type, and goes into the doc comment of the type, but for `inverse` and `inverse_ok`."),
     "derived Drop": Entry("`Drop` in `#[derive(..)]`", "In Rattle only a value of a type with `Drop` may be dropped. In Rust every value may."),
     "Drop bound": Entry("`Drop` as a bound", "The same."),
+    "allocator": Entry("`alloc: Global` among parameters, and `alloc` among arguments", "A `Vec` of Rust finds the allocator by itself."),
+    "label": Entry("the label of a loop that no `break` and no `continue` names", "The proof of the loop names it."),
     "law": Entry("a call of a function of `LAWS` in `tools/rust.d/lists.py`", "It does nothing, and its contract is for the proof."),
 }
 
@@ -76,6 +99,9 @@ LEFT_OUT_FILES = {
     "aead_ciphers/aeadrun.rt": "the loop of the program `aeadrun`, which reads and writes by Rattle's streams",
     "aead_ciphers/laws.rt": "functions without a body, whose contracts are laws",
     "tls_messages/laws.rt": "functions without a body, whose contracts are laws",
+    "quic_packets/laws.rt": "functions without a body, whose contracts are laws",
+    "records/laws.rt": "functions without a body, whose contracts are laws",
+    "sealed_file/laws.rt": "functions without a body, whose contracts are laws",
 }
 
 # Items that are left out: the head of an `impl`, or the name of another item.
@@ -96,7 +122,12 @@ DROPPED_IMPORTS = {
     "std::marker::Model": "It is the trait of `impl Model`, which is deleted.",
     "std::alloc::AllocError": "It is the error of Rattle's `clone`.",
     "thiserror::Error": "What its derive makes is written out.",
-    "arrayvec::ArrayVec": "Its `impl` is left out.",
+    "arrayvec::ArrayVec": "Its `impl` is left out, and `SuiteKey` stands for it.",
+    "std::alloc::Global": "It is the type of Rattle's allocator.",
+    "std::convert::AsSlice": "In Rust, digests have `as_ref`.",
+    "std::os::unix::fs::FileExt": "The added function names it.",
+    "std::random::RandomSource": "Random bytes are drawn from a `Read`.",
+    "sha2::Digest": "The trait `Hash` has its methods.",
 }
 
 # Names of an import of several that nothing uses once the rest is left out.
@@ -106,15 +137,45 @@ DROPPED_NAMES = {
     ("aead_ciphers_wide/aes.rt", "EncryptCtr32"): OF_KEY,
     ("aead_ciphers_wide/aes.rt", "Overlapping"): OF_KEY,
     ("aead_ciphers_wide/aes.rt", "Unspecified"): OF_KEY,
+    ("key_derivation/hmac.rt", "Digest"): "The trait `Hash` has its methods.",
+    ("key_derivation/hkdf.rt", "AES_128_KEY_LEN"): "Only `ArrayVec` needed it.",
+    ("key_derivation/hkdf.rt", "AES_256_KEY_LEN"): "The same.",
+    ("key_derivation/keys.rt", "AES_256_KEY_LEN"): "The same.",
+    ("sealed_file/read_at.rt", "AsBytes"): "`AsRef` stands for it.",
 }
 
 # Lines that are added before an item or, for `body`, at the beginning of its block.
 ALLOC = "`Vec` is of the crate `alloc`, which a program without an allocator doesn't have."
+GROWS = Entry("use deerlapse::memory::TryGrow;", "The calls of a `Vec` that may fail are its.")
 ADDED = {
     ("aead_ciphers_wide/aes.rt", "impl Width", "body"): Entry(
         "/// Returns the width of the planes that are the faster on the running processor.\n"
         "pub fn of_processor() -> Self { if simd::has_256_bits() { Width::Bits256 } else { Width::Bits128 } }\n",
         "Two of the replaced calls pass it.",
+    ),
+    ("key_derivation/lib.rt", "mod suite"): Entry("mod suite_key;\n", "It is by hand."),
+    ("key_derivation/hkdf.rt", "use crate::suite::Suite"): Entry("use crate::suite_key::SuiteKey;", "It stands for `ArrayVec`."),
+    ("key_derivation/keys.rt", "use std::fmt"): Entry("use crate::suite_key::SuiteKey;", "The same."),
+    ("records/connection.rt", "use crate::writer::Writer"): GROWS,
+    ("records/key.rt", "use std::alloc::AllocError"): GROWS,
+    ("records/writer.rt", "use crate::record_error::RecordError"): GROWS,
+    ("records/writer/content.rt", "use crate::record_error::RecordError"): GROWS,
+    ("records/connection/receiving.rt", "use tls_messages::MessageReader"): Entry("use deerlapse::memory::{TryGrow, try_to_vec};", "The calls of a `Vec` that may fail are its."),
+    ("sealed_file/chunk.rt", "use std::io"): GROWS,
+    ("sealed_file/in_memory.rt", "use crate::random::FileRandom"): GROWS,
+    ("sealed_file/passphrase.rt", "use sha2::Sha256"): GROWS,
+    ("sealed_file/random_access.rt", "use crate::key::FileKey"): GROWS,
+    ("sealed_file/reader.rt", "use aead_ciphers::aead::MAX_TAG_LEN"): Entry("use deerlapse::memory::{TryGrow, try_with_capacity};", "The same."),
+    ("sealed_file/stream.rt", "use crate::header::HEADER_LEN"): Entry("use deerlapse::memory::{TryGrow, try_with_capacity};", "The same."),
+    ("sealed_file/random.rt", "use std::io"): Entry("use std::io::Read;", "Random bytes are drawn from a `Read`."),
+    ("sealed_file/read_at.rt", "struct FileFrom"): Entry(
+        "/// Reads once from a position of a file on.\n"
+        "#[cfg(unix)]\n"
+        "fn read_file_at(file: &File, buf: &mut [u8], at: u64) -> io::Result<usize> { std::os::unix::fs::FileExt::read_at(file, buf, at) }\n\n"
+        "/// Reads once from a position of a file on, which moves its cursor.\n"
+        "#[cfg(not(unix))]\n"
+        "fn read_file_at(mut file: &File, buf: &mut [u8], at: u64) -> io::Result<usize> { file.seek(SeekFrom::Start(at))?; file.read(buf) }\n\n",
+        "Reading at a position is of Unix.",
     ),
     ("aead_ciphers/lib.rt", "mod session"): Entry('#[cfg(feature = "alloc")]', ALLOC),
     ("aead_ciphers/aead/in_out.rt", "impl InOut for Vec<u8>"): Entry('#[cfg(feature = "alloc")]', ALLOC),
@@ -127,7 +188,7 @@ ADDED = {
     ("aead_ciphers/aead/unbound_key.rt", "enum UnboundBytes"): Entry("#[allow(non_camel_case_types)]", "The names are ring's."),
 }
 
-# What stands after the first comment of each lib.rs.
+# What stands after the first comment of each lib.rs. Those of `WITH_STD` don't have its first line.
 HEAD = """#![no_std]
 #![forbid(unsafe_code)]
 
@@ -193,10 +254,43 @@ REPLACED = [
         "low.lanes.followed_by(high.lanes)",
         "Stable Rust can't say that the result of a shuffle has as many lanes as there are numbers.",
     ),
+    Replaced("*", "ArrayVec<u8, AES_256_KEY_LEN>", "SuiteKey", "The packages have no dependency but `sha2`, and `SuiteKey` is wiped."),
+    Replaced(
+        "key_derivation/hkdf.rt",
+        "let mut key = ArrayVec::from([0; AES_256_KEY_LEN]); key.truncate(match suite { Suite::Aes128Gcm => AES_128_KEY_LEN, "
+        "Suite::Aes256Gcm => AES_256_KEY_LEN, });",
+        "let mut key = SuiteKey::zeros(suite);",
+        "The same.",
+    ),
+    Replaced("key_derivation/hkdf.rt", "block.as_slice()", "block.as_ref()", "It is the name of the call in `AsRef`, which a digest has in Rust."),
+    Replaced("key_derivation/hmac.rt", "digest.as_slice()", "digest.as_ref()", "The same."),
+    Replaced("key_derivation/hmac.rt", "made.as_slice()", "made.as_ref()", "The same."),
+    Replaced("key_derivation/pbkdf2.rt", "code.as_slice()", "code.as_ref()", "The same.", 2),
+    Replaced("key_derivation/pbkdf2.rt", "for n in 0..further", "for _ in 0..further", "The proof alone names the number."),
+    Replaced("records/connection/receiving.rt", "message.to_vec()", "try_to_vec(message)", "Rust's `to_vec` ends the program where there is no memory."),
+    Replaced("sealed_file/stream.rt", "Vec::with_capacity(SEALED_CHUNK_LEN)", "try_with_capacity(SEALED_CHUNK_LEN)", "The same.", 2),
+    Replaced("sealed_file/reader.rt", "Vec::with_capacity(SEALED_CHUNK_LEN)", "try_with_capacity(SEALED_CHUNK_LEN)", "The same."),
+    Replaced("sealed_file/random.rt", "pub fn draw(source: &impl RandomSource)", "pub fn draw(source: &mut impl Read)", "Rust's standard library has no stable source of random bytes."),
+    Replaced("sealed_file/random.rt", "source.fill_bytes(&mut bytes)?;", "source.read_exact(&mut bytes)?;", "The same."),
+    Replaced("sealed_file/read_at.rt", "impl<T: AsBytes> ReadAt for Cursor<T>", "impl<T: AsRef<[u8]>> ReadAt for Cursor<T>", "`AsBytes` is a trait of Rattle."),
+    Replaced("sealed_file/read_at.rt", "self.get_ref().as_byte_slice()", "self.get_ref().as_ref()", "The same.", 2),
+    Replaced("sealed_file/read_at.rt", "self.file.read_at(buf, self.at)?", "read_file_at(self.file, buf, self.at)?", "Reading at a position is of Unix."),
 ]
+
+# Calls of a `Vec` that return an error in Rattle where there is no memory, and those of `TryGrow` that do so in Rust.
+GROWING = {
+    "reserve": "try_grow",
+    "push": "try_push",
+    "extend_from_slice": "try_extend_from_slice",
+    "resize": "try_resize",
+}
+# What no source of the crates with an allocator may call: each ends the program where there is no memory.
+ENDING = {*GROWING, "to_vec", "with_capacity", "collect", "to_owned", "to_string", "format", "vec", "Box", "extend"}
 
 # What `erase.py` and `levels.py` replace by their own code, for README.
 REWRITTEN = [
+    ("`X.push(..)`, and `reserve`, `extend_from_slice`, `resize`", "`X.try_push(..)`, and `try_grow`, `try_extend_from_slice`, `try_resize`", "A `Vec` of Rattle returns an error where there is no memory. Rust's ends the program, so these calls of `deerlapse::memory` reserve it first."),
+    ("`std::alloc::AllocError`, `AllocFailed`", "`deerlapse::memory::AllocError`, `AllocFailed`", "Rust has none that are stable."),
     ("`std::`", "`core::`", "The packages need no operating system. `std::simd` is the package `simd`."),
     ("`X.as_array::<N>()`", "`simd::array_of::<_, N>(X)`", "Rust 1.85 doesn't have `as_array`, nor `as_mut_array`."),
     ("`X.shuffle(Y, [..])`", "`X.shuffle(Y, const { simd::Places::new([..]) })`", "The compiler computes the places once."),
@@ -269,4 +363,37 @@ WIPED = {
     "aead_ciphers_wide/aes_gcm.rt": {"ExpandedKey": ("planes", "round_keys", "products", "squares")},
     "aead_ciphers_wide/aes_gcm/pieces.rt": {"SealState": ("xi", "batch")},
     "xaes/expanded.rt": {"ExpandedKey": ("round_keys", "subkey")},
+    "key_derivation/secret.rt": {"SecretBytes": ("Sha256", "Sha384")},
+    "sealed_file/key.rt": {"FileKey": ("bytes",)},
+}
+
+# Sentences of comments that aren't so in Rust, each with the one that is.
+SENTENCES = [
+    Replaced(
+        "key_derivation/lib.rt",
+        "No function allocates, and none wipes a secret from memory.",
+        "No function allocates. A\n//! secret and a key are overwritten with zeros when they are dropped. The state of a hash function isn't.",
+        "`sha2` 0.10 doesn't wipe its state.",
+    ),
+    Replaced("quic_packets/lib.rt", " `laws` states what\n//! follows from the contracts over runs of calls.", "", "The laws are left out."),
+]
+
+# The items whose examples are written in Rust, in the folder `examples`.
+EXAMPLES = {
+    ("key_derivation/quic.rt", "QuicSecret"): "quic_secret.md",
+    ("quic_packets/connection.rt", "Connection"): "quic_connection.md",
+    ("quic_packets/sender.rt", "Sender"): "sender.md",
+    ("quic_packets/receiver.rt", "Receiver"): "receiver.md",
+    ("quic_packets/key.rt", "PacketKey"): "packet_key.md",
+    ("records/connection.rt", "Connection"): "tls_connection.md",
+    ("records/reader.rt", "Reader"): "reader.md",
+    ("records/writer.rt", "Writer"): "writer.md",
+    ("records/key.rt", "RecordKey"): "record_key.md",
+    ("records/stream.rt", "classify"): "classify.md",
+    ("sealed_file/random_access.rt", "open_chunk_at"): "open_chunk_at.md",
+    ("sealed_file/reader.rt", "SealedReader"): "sealed_reader.md",
+    ("sealed_file/in_memory.rt", "seal_bytes"): "seal_bytes.md",
+    ("sealed_file/opening.rt", "open"): "open.md",
+    ("sealed_file/sealing.rt", "seal"): "seal.md",
+    ("sealed_file/read_at.rt", "ReadAt"): "read_at.md",
 }

@@ -12,6 +12,7 @@ WORDS = {
         "`slice_index xs i`: item i of a list of numbers, or 0 if there is none. The first item is item 0. "
         "`slice_index_or xs i d`: item i of any list, or d if there is none."
     ),
+    ("slice_range",): "`slice_range xs a b`: the items from item a up to item b, without this one.",
     ("slice_get",): "`slice_get xs i`: `Some` of item i, or `None`.",
     ("slice_set",): "`slice_set xs i x`: xs with x in place of item i.",
     ("map", "reverse"): "`map f xs`: f of each item. `reverse xs`: the items in reverse order.",
@@ -30,6 +31,7 @@ WORDS = {
         "make. The last part may be shorter."
     ),
     ("All", "Each1"): "`All P xs` and `Each1 P xs`: P of each item.",
+    ("Any",): "`Any P xs`: P of some item.",
     ("AllZip",): "`AllZip R xs ys`: the lists are equally long, and R holds of each two items at the same place.",
     ("Contains",): "`Contains xs x`: x is an item of xs.",
     ("FoldsTo",): (
@@ -40,14 +42,18 @@ WORDS = {
     ("min", "max", "div_ceil"): (
         "`min a b` and `max a b`: the lesser and the greater number. `div_ceil a b`: a / b, rounded up."
     ),
-    ("bit_at", "bit_and", "bit_xor"): (
-        "`bit_at n i`: bit i of n, of which the lowest is bit 0. `bit_and a b` and `bit_xor a b`: Rust's `a & b` and `a ^ "
-        "b`."
+    ("bit_at", "bit_and", "bit_xor", "bit_or"): (
+        "`bit_at n i`: bit i of n, of which the lowest is bit 0. `bit_and a b`, `bit_or a b` and `bit_xor a b`: Rust's `a & b`, "
+        "`a | b` and `a ^ b`."
     ),
     ("to_be_bytes", "to_le_bytes", "from_be_bytes", "from_le_bytes", "rotate_left", "w16", "w32", "w64", "w128"): (
         "`to_be_bytes w n`, `to_le_bytes w n`, `from_be_bytes w xs`, `from_le_bytes w xs` and `rotate_left w n k`: what "
         "Rust's methods of these names return for an unsigned integer of the width w, which is `w16`, `w32`, `w64` or "
         "`w128`. Of a number that is too large, the first two have the lowest bytes."
+    ),
+    ("bytes_high_first", "number_from_digits"): (
+        "`bytes_high_first k n`: the k lowest bytes of n, the highest first. `number_from_digits p xs`: the number that has the "
+        "digits xs to the base p, the highest first."
     ),
     ("number_l", "digits_l"): (
         "`number_l p xs`: the number that has the digits xs to the base p, the lowest first. `digits_l p n x`: the n "
@@ -57,8 +63,9 @@ WORDS = {
         "`Bool`: the type of `true` and `false`. `IsFalse b`: b is `false`. `not b`, `a && b` and `a || b`: Rust's `!b`, "
         "`a && b` and `a || b`."
     ),
-    ("nat_eq", "nat_lt", "leb", "◌==◌"): (
-        "`nat_eq a b` and `a == b`, `nat_lt a b`, `leb a b`: whether a is b, is less than b, is at most b, as a `Bool`."
+    ("nat_eq", "nat_lt", "nat_le", "leb", "◌==◌"): (
+        "`nat_eq a b` and `a == b`, `nat_lt a b`, `nat_le a b` and `leb a b`: whether a is b, is less than b, is at most b, as a "
+        "`Bool`."
     ),
     ("if◌then◌else◌", "cond"): "`if b then x else y` and `cond b x y`: x if b is `true`, and y if it is `false`.",
     ("Option", "Some", "None", "Result", "Ok", "Err"): "`Option`, `Result` and their variants: those of Rust.",
@@ -66,7 +73,20 @@ WORDS = {
         "`IsSome o`: o is `Some`. `IfSome o (λ v. P)`: if o is `Some` of v, then P. `MatchOption o P (λ v. Q)`: P if o is "
         "`None`, and Q if it is `Some` of v. `unwrap_or o d`: Rust's `o.unwrap_or(d)`."
     ),
+    ("IsNone", "IfNone"): "`IsNone o`: o is `None`. `IfNone o P`: if o is `None`, then P.",
+    ("is_some", "option_map", "option_copied"): (
+        "`is_some o`, `option_map f o` and `option_copied o`: what Rust's `o.is_some()`, `o.map(f)` and `o.copied()` return."
+    ),
     ("IsErrOf", "IsOkUnless"): "`IsErrOf r e`: r is `Err` of e. `IsOkUnless r e`: r is `Ok`, or `Err` of e.",
+    ("Vec",): "`Vec`: the type of Rust's `Vec`.",
+    ("sha256", "sha384"): "`sha256 m` and `sha384 m`: the digest of the message m by SHA-256 and SHA-384 (FIPS 180-4).",
+    ("Appends", "Keeps", "ReadConsumes", "ReadsAtMost"): (
+        "Of a stream, a contract speaks of `R.remaining`, the bytes that are still to be read, or `W.contents`, those that were "
+        "written, each an `Option`, which is `None` where nothing is known of the stream. `Appends a b xs`: b is a followed by xs. "
+        "`Keeps a b`: b is a. `ReadConsumes a b r buf`: if the result r of a read is `Ok` of n, then a is the first n bytes of buf "
+        "followed by b, and else b is a. `ReadsAtMost r buf`: r is an `Err`, or `Ok` of at most the length of buf."
+    ),
+    ("cursor_inner",): "`cursor_inner c`: what the `Cursor` c reads, as `c.get_ref()` returns it.",
     ("vec_len", "vec_capacity", "with_items"): (
         "`vec_len v` and `vec_capacity v`: the length and the capacity of a `Vec`. `v.items`: its items. `with_items v "
         "xs`: v with the items xs in place of its own, from the first on. The length stays."

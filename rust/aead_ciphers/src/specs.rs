@@ -36,8 +36,8 @@
 //!   `w64` or `w128`. Of a number that is too large, the first two have the lowest bytes.
 //! - `Bool`: the type of `true` and `false`. `IsFalse b`: b is `false`. `not b`, `a && b` and `a || b`: Rust's
 //!   `!b`, `a && b` and `a || b`.
-//! - `nat_eq a b` and `a == b`, `nat_lt a b`, `leb a b`: whether a is b, is less than b, is at most b, as a
-//!   `Bool`.
+//! - `nat_eq a b` and `a == b`, `nat_lt a b`, `nat_le a b` and `leb a b`: whether a is b, is less than b, is at
+//!   most b, as a `Bool`.
 //! - `if b then x else y` and `cond b x y`: x if b is `true`, and y if it is `false`.
 //! - `Option`, `Result` and their variants: those of Rust.
 //! - `IsSome o`: o is `Some`. `IfSome o (λ v. P)`: if o is `Some` of v, then P. `MatchOption o P (λ v. Q)`: P if

@@ -26,15 +26,15 @@
 //! - `concat xss`: the lists of a list, joined. `flat_map f xs`: the lists f of each item, joined.
 //! - `All P xs` and `Each1 P xs`: P of each item.
 //! - `zero`: 0. `suc n`: n + 1.
-//! - `bit_at n i`: bit i of n, of which the lowest is bit 0. `bit_and a b` and `bit_xor a b`: Rust's `a & b` and
-//!   `a ^ b`.
+//! - `bit_at n i`: bit i of n, of which the lowest is bit 0. `bit_and a b`, `bit_or a b` and `bit_xor a b`:
+//!   Rust's `a & b`, `a | b` and `a ^ b`.
 //! - `to_be_bytes w n`, `to_le_bytes w n`, `from_be_bytes w xs`, `from_le_bytes w xs` and `rotate_left w n k`:
 //!   what Rust's methods of these names return for an unsigned integer of the width w, which is `w16`, `w32`,
 //!   `w64` or `w128`. Of a number that is too large, the first two have the lowest bytes.
 //! - `number_l p xs`: the number that has the digits xs to the base p, the lowest first. `digits_l p n x`: the n
 //!   lowest digits of x.
-//! - `nat_eq a b` and `a == b`, `nat_lt a b`, `leb a b`: whether a is b, is less than b, is at most b, as a
-//!   `Bool`.
+//! - `nat_eq a b` and `a == b`, `nat_lt a b`, `nat_le a b` and `leb a b`: whether a is b, is less than b, is at
+//!   most b, as a `Bool`.
 //! - `if b then x else y` and `cond b x y`: x if b is `true`, and y if it is `false`.
 //! - `Bor A` and `MutBor A`: the types of a `&` and of a `&mut` to an A. `r.ghost_name`: which loan the `&mut` r
 //!   belongs to, a value of the type `GName`.

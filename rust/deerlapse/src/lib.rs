@@ -65,6 +65,14 @@
 #![forbid(unsafe_code)]
 
 #[cfg(feature = "alloc")]
+extern crate alloc;
+#[cfg(feature = "std")]
+extern crate std;
+
+#[cfg(feature = "alloc")]
+pub mod memory;
+
+#[cfg(feature = "alloc")]
 pub use aead_ciphers::session;
 pub use aead_ciphers_base::{chacha, error};
 pub use tls_messages;

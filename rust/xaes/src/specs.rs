@@ -20,15 +20,15 @@
 //! library that the pages of this crate use:
 //!
 //! - `List A`: the type of the lists of values of the type A.
-//! - `bit_at n i`: bit i of n, of which the lowest is bit 0. `bit_and a b` and `bit_xor a b`: Rust's `a & b` and
-//!   `a ^ b`.
+//! - `bit_at n i`: bit i of n, of which the lowest is bit 0. `bit_and a b`, `bit_or a b` and `bit_xor a b`:
+//!   Rust's `a & b`, `a | b` and `a ^ b`.
 //! - `to_be_bytes w n`, `to_le_bytes w n`, `from_be_bytes w xs`, `from_le_bytes w xs` and `rotate_left w n k`:
 //!   what Rust's methods of these names return for an unsigned integer of the width w, which is `w16`, `w32`,
 //!   `w64` or `w128`. Of a number that is too large, the first two have the lowest bytes.
 //! - `Bool`: the type of `true` and `false`. `IsFalse b`: b is `false`. `not b`, `a && b` and `a || b`: Rust's
 //!   `!b`, `a && b` and `a || b`.
-//! - `nat_eq a b` and `a == b`, `nat_lt a b`, `leb a b`: whether a is b, is less than b, is at most b, as a
-//!   `Bool`.
+//! - `nat_eq a b` and `a == b`, `nat_lt a b`, `nat_le a b` and `leb a b`: whether a is b, is less than b, is at
+//!   most b, as a `Bool`.
 //! - `if b then x else y` and `cond b x y`: x if b is `true`, and y if it is `false`.
 //! - `Option`, `Result` and their variants: those of Rust.
 //! - `codes ".."`: the bytes of an ASCII text.
