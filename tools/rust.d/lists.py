@@ -375,6 +375,12 @@ SENTENCES = [
         "No function allocates. A\n//! secret and a key are overwritten with zeros when they are dropped. The state of a hash function isn't.",
         "`sha2` 0.10 doesn't wipe its state.",
     ),
+    Replaced(
+        "sealed_file/random.rt",
+        "Draws the random bytes of a file, as from the system by a program's runtime.",
+        "Draws the random bytes of a file from a source, such as the system's generator.",
+        "A program in Rust has no runtime that draws them.",
+    ),
     Replaced("quic_packets/lib.rt", " `laws` states what\n//! follows from the contracts over runs of calls.", "", "The laws are left out."),
 ]
 

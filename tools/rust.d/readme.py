@@ -94,6 +94,11 @@ def table(head, rows):
     return "\n".join(lines) + "\n"
 
 
+def in_one_line(text):
+    """Returns a text of comments as one line."""
+    return " ".join(text.replace("//!", " ").replace("///", " ").split())
+
+
 def of_place(place):
     """Returns the file of an entry and what it names there."""
     return f"`crates/{place[0].replace('/', '/src/', 1)}`", f"`{' '.join(place[1:2])}`"
@@ -110,6 +115,10 @@ def tables(counts):
     rows = [("each file" if it.file == "*" else of_place((it.file, ""))[0], f"`{' '.join(it.old.split())}`", f"`{' '.join(it.new.split())}`", it.why) for it in lists.REPLACED]
     rows += [("each file", old, new, why) for old, new, why in lists.REWRITTEN]
     yield "Replaced:", table(("Where", "What", "By", "Why"), rows)
+    rows = [(f"`{path}`", why) for path, why in lists.BY_HAND.items()]
+    yield "Written by hand, below `rust/protocols`:", table(("File", "Why"), rows)
+    rows = [(of_place((it.file, ""))[0], in_one_line(it.old), in_one_line(it.new), it.why) for it in lists.SENTENCES]
+    yield "Sentences of comments that aren't so in Rust:", table(("Where", "What", "By", "Why"), rows)
     rows = [(f"`{' '.join(it.what.split())}`", f"{'the block of ' if len(place) > 2 else ''}{of_place(place)[1]} of {of_place(place)[0]}", it.why) for place, it in lists.ADDED.items()]
     yield "Added:", table(("What", "To what", "Why"), rows)
     rows = [(f"`{path}`", "each file", why) for path, why in lists.DROPPED_IMPORTS.items()]

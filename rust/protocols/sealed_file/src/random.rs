@@ -34,7 +34,7 @@ impl FileRandom {
         &self.bytes
     }
 
-    /// Draws the random bytes of a file, as from the system by a program's runtime.
+    /// Draws the random bytes of a file from a source, such as the system's generator.
     ///
     /// Fails with the error of the source.
     ///
