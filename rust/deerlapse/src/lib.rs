@@ -18,6 +18,7 @@
 //! - [`chacha`] has the ChaCha20 stream (RFC 8439), without authentication. ChaCha20-Poly1305 isn't in this package.
 //! - [`session`] seals and opens a list of messages, in order, by one call.
 //! - [`tls_messages`] joins the handshake messages of TLS 1.3.
+//! - [`memory`] grows a `Vec`, or returns an error if the memory isn't there.
 //!
 //! [`seal_packet_in_place`]: aead::generic::LessSafeKey::seal_packet_in_place
 //! [`open_packet_in_place_after_header`]: aead::generic::LessSafeKey::open_packet_in_place_after_header
@@ -55,7 +56,7 @@
 //!
 //! Both features are on by default. With `std`, the vector instructions are chosen at run time, by what the processor has. Without
 //! it, only those are used for which the program is compiled (`-C target-feature`, `-C target-cpu`). `alloc` adds
-//! [`InOut`](aead::InOut) for `Vec<u8>` and the module [`session`]. Without either the packages need no allocator and no operating
+//! [`InOut`](aead::InOut) for `Vec<u8>` and the modules [`session`] and [`memory`]. Without either the packages need no allocator and no operating
 //! system. The `usize` of a target must have 64 bits.
 //!
 //! In a build without optimization these calls take some 270 times as long. `[profile.dev.package."*"] opt-level = 3` in a
