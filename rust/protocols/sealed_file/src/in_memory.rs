@@ -82,7 +82,25 @@ fn append_sealed(
 ///
 /// # Examples
 ///
+/// Seals a file in memory, and opens it again. The first call appends to what `out` holds.
+///
 /// ```
+/// use deerlapse_file::{FileError, FileKey, FileRandom, open_bytes, seal_bytes};
+/// use std::fs::File;
+///
+/// fn main() -> Result<(), FileError> {
+///     let key = FileKey::new(&[7; 32])?; // not a real key, which is drawn at random and kept secret
+///     let random = FileRandom::draw(&mut File::open("/dev/urandom")?)?;
+///
+///     let mut out = b"before".to_vec();
+///     seal_bytes(&key, random, b"hello", &mut out)?;
+///     let sealed = out.strip_prefix(b"before").unwrap();
+///
+///     let mut opened = Vec::new();
+///     open_bytes(&key, sealed, &mut opened)?;
+///     assert_eq!(opened, b"hello");
+///     Ok(())
+/// }
 /// ```
 ///
 /// <details><summary>Contract</summary>

@@ -22,7 +22,31 @@ use std::mem;
 ///
 /// # Examples
 ///
+/// Opens a file of two chunks, and then the same file without its last byte. By the time the last chunk is refused, the message of the
+/// first has been written. So a program that opens a file into another keeps the other only if the call succeeds.
+///
 /// ```
+/// use deerlapse_file::{CHUNK_LEN, FileError, FileKey, FileRandom, open, seal};
+/// use std::fs::File;
+///
+/// fn main() -> Result<(), FileError> {
+///     let key = FileKey::new(&[7; 32])?; // not a real key, which is drawn at random and kept secret
+///     let random = FileRandom::draw(&mut File::open("/dev/urandom")?)?;
+///     let file = vec![1; CHUNK_LEN + 5];
+///     let mut sealed = Vec::new();
+///     seal(&key, random, &mut file.as_slice(), &mut sealed)?;
+///
+///     let mut opened = Vec::new();
+///     open(&key, &mut sealed.as_slice(), &mut opened)?;
+///     assert_eq!(opened, file);
+///
+///     let mut cut = &sealed[..sealed.len() - 1];
+///     let mut opened = Vec::new();
+///     let error = open(&key, &mut cut, &mut opened).unwrap_err();
+///     assert!(matches!(error, FileError::Refused(1)));
+///     assert_eq!(opened, file[..CHUNK_LEN]);
+///     Ok(())
+/// }
 /// ```
 ///
 /// <details><summary>Contract</summary>

@@ -49,7 +49,33 @@ fn append_chunk_at(
 ///
 /// # Examples
 ///
+/// Opens the second chunk of a file, which is also the last. Under another number it is refused.
+///
 /// ```
+/// use deerlapse_file::{
+///     CHUNK_LEN, FileError, FileKey, FileRandom, HEADER_LEN, SEALED_CHUNK_LEN, open_chunk_at,
+///     plaintext_len, seal_bytes,
+/// };
+/// use std::fs::File;
+///
+/// fn main() -> Result<(), FileError> {
+///     let key = FileKey::new(&[7; 32])?; // not a real key, which is drawn at random and kept secret
+///     let random = FileRandom::draw(&mut File::open("/dev/urandom")?)?;
+///     let file = vec![1; CHUNK_LEN + 5];
+///     let mut sealed = Vec::new();
+///     seal_bytes(&key, random, &file, &mut sealed)?;
+///     assert_eq!(plaintext_len(sealed.len() as u64), Some(file.len() as u64));
+///
+///     let (header, chunks) = sealed.split_at(HEADER_LEN);
+///     let chunk = &chunks[SEALED_CHUNK_LEN..];
+///     let mut message = Vec::new();
+///     open_chunk_at(&key, &[], header, 1, true, chunk, &mut message)?;
+///     assert_eq!(message, file[CHUNK_LEN..]);
+///
+///     let error = open_chunk_at(&key, &[], header, 2, true, chunk, &mut message).unwrap_err();
+///     assert!(matches!(error, FileError::Refused(2)));
+///     Ok(())
+/// }
 /// ```
 ///
 /// <details><summary>Contract</summary>

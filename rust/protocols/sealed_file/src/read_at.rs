@@ -15,7 +15,49 @@ use std::io::{self, Cursor, Read, Seek, SeekFrom};
 ///
 /// # Examples
 ///
+/// An input that counts its reads. A reader reads the header and the last chunk when it is made, and then one chunk whenever it doesn't
+/// hold the one that it needs.
+///
 /// ```
+/// use deerlapse_file::{CHUNK_LEN, FileError, FileKey, FileRandom, ReadAt, SealedReader, seal_bytes};
+/// use std::cell::Cell;
+/// use std::fs::File;
+/// use std::io;
+///
+/// struct Counted<'a> {
+///     bytes: &'a [u8],
+///     reads: &'a Cell<usize>,
+/// }
+///
+/// impl ReadAt for Counted<'_> {
+///     fn size(&mut self) -> io::Result<u64> {
+///         self.bytes.size()
+///     }
+///
+///     fn read_at(&mut self, at: u64, buf: &mut [u8]) -> io::Result<usize> {
+///         self.reads.set(self.reads.get() + 1);
+///         self.bytes.read_at(at, buf)
+///     }
+/// }
+///
+/// fn main() -> Result<(), FileError> {
+///     let key = FileKey::new(&[7; 32])?; // not a real key, which is drawn at random and kept secret
+///     let random = FileRandom::draw(&mut File::open("/dev/urandom")?)?;
+///     let mut sealed = Vec::new();
+///     seal_bytes(&key, random, &[1; 3 * CHUNK_LEN], &mut sealed)?;
+///
+///     let reads = Cell::new(0);
+///     let input = Counted { bytes: &sealed, reads: &reads };
+///     let mut reader = SealedReader::new(&key, &[], input, 0)?;
+///     assert_eq!(reads.get(), 2);
+///
+///     let mut buf = [0; 100];
+///     for at in [0, 100, 200] {
+///         assert_eq!(reader.read_at(at, &mut buf)?, 100);
+///         assert_eq!(reads.get(), 3);
+///     }
+///     Ok(())
+/// }
 /// ```
 ///
 /// <details><summary>Ghost items</summary>

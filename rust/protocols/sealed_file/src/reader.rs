@@ -26,7 +26,34 @@ struct Layout {
 ///
 /// # Examples
 ///
+/// Reads a part of a sealed file that begins at byte 6 of the input. No read goes beyond the end of a chunk, so the loop makes two.
+///
 /// ```
+/// use deerlapse_file::{CHUNK_LEN, FileError, FileKey, FileRandom, SealedReader, seal_bytes};
+/// use std::fs::File;
+///
+/// fn main() -> Result<(), FileError> {
+///     let key = FileKey::new(&[7; 32])?; // not a real key, which is drawn at random and kept secret
+///     let random = FileRandom::draw(&mut File::open("/dev/urandom")?)?;
+///     let file: Vec<u8> = (0..=255).cycle().take(2 * CHUNK_LEN).collect();
+///     let mut input = b"before".to_vec();
+///     seal_bytes(&key, random, &file, &mut input)?;
+///
+///     let mut reader = SealedReader::new(&key, &[], input.as_slice(), 6)?;
+///     assert_eq!(reader.len(), file.len() as u64);
+///
+///     let at = CHUNK_LEN - 10;
+///     let mut part = [0; 100];
+///     let mut filled = 0;
+///     while filled < part.len() {
+///         match reader.read_at((at + filled) as u64, &mut part[filled..])? {
+///             0 => break,
+///             count => filled += count,
+///         }
+///     }
+///     assert_eq!(part[..filled], file[at..at + 100]);
+///     Ok(())
+/// }
 /// ```
 ///
 /// <details><summary>Model</summary>

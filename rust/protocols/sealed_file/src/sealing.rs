@@ -19,7 +19,26 @@ use std::mem;
 ///
 /// # Examples
 ///
+/// Seals five bytes. Input and output may be any `Read` and `Write`. Two of type `File` need no `BufReader` and no `BufWriter`, since
+/// `seal` moves 64 KiB at a time.
+///
 /// ```
+/// use deerlapse_file::{FileError, FileKey, FileRandom, HEADER_LEN, seal};
+/// use std::fs::File;
+/// use std::io::Read;
+///
+/// fn main() -> Result<(), FileError> {
+///     let mut source = File::open("/dev/urandom")?;
+///     let mut bytes = [0; 32];
+///     source.read_exact(&mut bytes)?;
+///     let key = FileKey::new(&bytes)?; // for many files
+///     let random = FileRandom::draw(&mut source)?; // for this file
+///
+///     let mut sealed = Vec::new();
+///     seal(&key, random, &mut &b"hello"[..], &mut sealed)?;
+///     assert_eq!(sealed.len(), HEADER_LEN + 5 + 16);
+///     Ok(())
+/// }
 /// ```
 ///
 /// <details><summary>Contract</summary>
