@@ -1,1 +1,5 @@
 //! The tests of the packages.
+
+#![forbid(unsafe_code)]
+
+pub mod files;
