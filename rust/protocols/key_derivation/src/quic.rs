@@ -125,7 +125,36 @@ impl Version {
 ///
 /// # Examples
 ///
+/// The secrets of Initial packets derive from the connection ID that the client chose. TLS gives the secrets of the other
+/// packets, one for each direction. A key update changes the key and the IV for payloads, and keeps the key that masks headers:
+///
 /// ```
+/// use deerlapse_key_derivation::quic::{QuicSecret, Version};
+/// use deerlapse_key_derivation::{Secret, Suite};
+///
+/// // RFC 9001 section A.1.
+/// let id = [0x83, 0x94, 0xc8, 0xf0, 0x3e, 0x51, 0x57, 0x08];
+/// let keys = QuicSecret::client_initial(Version::One, &id)?.keys();
+/// assert_eq!(keys.key.as_slice()[..4], [0x1f, 0x36, 0x96, 0x13]);
+/// assert_eq!(keys.iv[..4], [0xfa, 0x04, 0x4b, 0x2f]);
+/// assert_eq!(keys.header_key.as_slice()[..4], [0x9f, 0x50, 0x44, 0x9e]);
+///
+/// // `traffic_secret` is from TLS.
+/// let traffic_secret = [7; 48];
+/// let secret = Secret::new(Suite::Aes256Gcm, &traffic_secret)?;
+/// let secret = QuicSecret::new(Version::One, secret);
+/// let (header_key, first) = (secret.header_key(), secret.packet_keys());
+/// assert_eq!(
+///     (header_key.as_slice().len(), first.key.as_slice().len()),
+///     (32, 32)
+/// );
+///
+/// // The connection updates its keys.
+/// let secret = secret.next();
+/// let second = secret.packet_keys();
+/// assert_ne!(second.key.as_slice(), first.key.as_slice());
+/// assert_ne!(second.iv, first.iv);
+/// # Ok::<(), deerlapse_key_derivation::DerivationError>(())
 /// ```
 ///
 /// <details><summary>Model</summary>

@@ -48,7 +48,103 @@ pub enum Level {
 ///
 /// # Examples
 ///
+/// Each event of a connection has its call:
+///
+/// - TLS gives a secret: `install_sender` or `install_receiver`.
+/// - The client sends its first Handshake packet, or the server receives it: `discard` of `Level::Initial` (RFC 9001 section
+///   4.9.1).
+/// - The handshake is complete at the server, or HANDSHAKE_DONE arrives at the client: `confirm_handshake`, and `discard` of
+///   `Level::Handshake` (sections 4.1.2 and 4.9.2).
+/// - There are frames to send: `send`.
+/// - A datagram arrives: `receive`, for each packet in it.
+/// - A packet has an ACK frame: `acknowledged`, for each number in it.
+/// - `receive` tells a key update, and three times the probe timeout has passed: `forget_previous` (section 6.5).
+///
+/// Both ends of a connection from the secrets of its 1-RTT packets on:
+///
 /// ```
+/// # use key_derivation as deerlapse_key_derivation;
+/// use std::error::Error;
+///
+/// use deerlapse_key_derivation::Secret;
+/// use deerlapse_quic::connection::{Connection, Incoming, Level, PeerUpdate};
+/// use deerlapse_quic::{
+///     FixedBit, QuicSecret, ReceiveError, Received, SendError, ShortHeader, TAG_LEN, Version,
+/// };
+///
+/// /// The connection ID of both ends.
+/// const ID: [u8; 8] = [4; 8];
+///
+/// /// Creates an end when its handshake is confirmed.
+/// fn end(own: [u8; 32], peer: [u8; 32]) -> Result<Connection<2>, Box<dyn Error>> {
+///     let secret = |bytes| QuicSecret::new(Version::One, Secret::aes_128_gcm(bytes));
+///     let mut end = Connection::new(FixedBit::Required);
+///     end.install_sender(Level::OneRtt, secret(own))?;
+///     end.install_receiver(Level::OneRtt, secret(peer))?;
+///     end.confirm_handshake();
+///     Ok(end)
+/// }
+///
+/// /// Returns a packet with these frames.
+/// fn send(end: &mut Connection<2>, frames: &[u8]) -> Result<Vec<u8>, Box<dyn Error>> {
+///     let sender = end.sender(Level::OneRtt).ok_or(SendError::NoKeys)?;
+///     let number_len = sender.next_number_len().ok_or(SendError::NumberTooFar)?;
+///     let header = ShortHeader {
+///         destination_id: &ID,
+///         phase: sender.phase(),
+///         number_len,
+///     };
+///     let mut packet = vec![0; 1 + ID.len() + number_len];
+///     let number = header.write(&mut packet)?;
+///     packet.extend(frames);
+///     packet.extend([0; TAG_LEN]);
+///     end.send(Level::OneRtt, &mut packet, number)?;
+///     Ok(packet)
+/// }
+///
+/// /// Receives the only packet of a datagram, and returns the key update that it shows.
+/// fn receive(
+///     end: &mut Connection<2>,
+///     datagram: &mut [u8],
+/// ) -> Result<(Received, Option<PeerUpdate>), Box<dyn Error>> {
+///     match end.receive(datagram, 0, ID.len(), &ID)?.incoming {
+///         Incoming::Packet(_, received, update) => Ok((received, update)),
+///         other => Err(format!("{other:?}").into()),
+///     }
+/// }
+///
+/// let mut client = end([1; 32], [2; 32])?;
+/// let mut server = end([2; 32], [1; 32])?;
+///
+/// // The client sends a packet. The server refuses a forged one, which changes nothing but the count
+/// // of failures.
+/// let mut datagram = send(&mut client, b"\x08\0hello")?;
+/// let mut forged = datagram.clone();
+/// forged[20] ^= 1;
+/// let step = server.receive(&mut forged, 0, ID.len(), &ID)?;
+/// assert_eq!(step.incoming, Incoming::Dropped(ReceiveError::Refused));
+/// assert_eq!(server.failures(), 1);
+/// let (received, update) = receive(&mut server, &mut datagram)?;
+/// assert_eq!(datagram[received.payload], *b"\x08\0hello");
+/// assert_eq!((received.number, update), (0, None));
+///
+/// // The client initiates a key update. The server follows it when it receives the next packet, and
+/// // acknowledges that packet under its own next keys.
+/// client.initiate_update()?;
+/// let mut datagram = send(&mut client, b"\x08\0again")?;
+/// let (_, update) = receive(&mut server, &mut datagram)?;
+/// assert_eq!(update, Some(PeerUpdate::Initiated));
+/// let mut datagram = send(&mut server, b"\x02\x01\0\0\x01")?;
+/// let (received, update) = receive(&mut client, &mut datagram)?;
+/// assert_eq!(update, Some(PeerUpdate::Answered));
+/// for number in [1, 0] {
+///     client.acknowledged(Level::OneRtt, number, received.phase)?;
+/// }
+///
+/// // Three probe timeouts later, both ends drop the old keys.
+/// client.forget_previous();
+/// server.forget_previous();
+/// # Ok::<(), Box<dyn Error>>(())
 /// ```
 ///
 /// <details><summary>Model</summary>

@@ -24,7 +24,55 @@ pub const TAG_LEN: usize = MAX_TAG_LEN;
 ///
 /// # Examples
 ///
+/// A packet is sealed under its number, and then its header is masked. The other end unmasks the header, which tells how many
+/// bytes the number has, decodes the number, and opens the packet:
+///
 /// ```
+/// # use key_derivation as deerlapse_key_derivation;
+/// use std::error::Error;
+///
+/// use deerlapse_key_derivation::Secret;
+/// use deerlapse_quic::numbers::{decode, number_len, truncated};
+/// use deerlapse_quic::{
+///     HeaderKey, PacketKey, QuicSecret, ReceiveError, ShortHeader, TAG_LEN, Version,
+/// };
+///
+/// let secret = QuicSecret::new(Version::One, Secret::aes_128_gcm([1; 32]));
+/// let (key, header_key) = (
+///     PacketKey::from_secret(&secret),
+///     HeaderKey::from_secret(&secret),
+/// );
+///
+/// // Packet 300 is sent, and 299 is the largest number that the peer has acknowledged.
+/// let (number, acknowledged) = (300u64, Some(299));
+/// let number_len = number_len(number, acknowledged).ok_or("a number that is too far")?;
+/// let header = ShortHeader {
+///     destination_id: &[4; 8],
+///     phase: false,
+///     number_len,
+/// };
+/// let mut packet = vec![0; 9 + number_len];
+/// let room = header.write(&mut packet)?;
+/// let header_len = room.end;
+/// packet[room.clone()].copy_from_slice(&number.to_be_bytes()[8 - number_len..]);
+/// packet.extend(b"\x08\0hello");
+/// packet.extend([0; TAG_LEN]);
+/// key.seal(number, &mut packet, header_len)?;
+/// header_key.protect(&mut packet, room.start)?;
+///
+/// // The peer has received packet 299.
+/// let mut forged = packet.clone();
+/// let number_len = header_key.unprotect(&mut packet, 9)?;
+/// let number = decode(Some(299), truncated(&packet, 9, number_len), number_len);
+/// let payload_len = key.open(number, &mut packet, 9 + number_len)?;
+/// assert_eq!(number, 300);
+/// assert_eq!(packet[9 + number_len..][..payload_len], *b"\x08\0hello");
+///
+/// // A changed packet is refused. The caller counts it among the failures of the connection.
+/// forged[12] ^= 1;
+/// header_key.unprotect(&mut forged, 9)?;
+/// assert_eq!(key.open(300, &mut forged, 10), Err(ReceiveError::Refused));
+/// # Ok::<(), Box<dyn Error>>(())
 /// ```
 ///
 /// <details><summary>Model</summary>

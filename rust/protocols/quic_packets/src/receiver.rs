@@ -37,7 +37,69 @@ pub struct Received {
 ///
 /// # Examples
 ///
+/// `packet_at` finds a packet in its datagram, and the receiver opens it. A `Space` has the numbers that were received at the
+/// level, and one `Failures` counts for the whole connection. A packet that comes twice is refused, and so is a forged one:
+///
 /// ```
+/// # use key_derivation as deerlapse_key_derivation;
+/// use std::error::Error;
+///
+/// use deerlapse_key_derivation::Secret;
+/// use deerlapse_quic::{
+///     Failures, FixedBit, QuicSecret, ReceiveError, Receiver, Sender, Space, Version, packet_at,
+/// };
+///
+/// /// The connection ID of the receiving end.
+/// const ID: [u8; 8] = [4; 8];
+///
+/// /// The secret of one direction, which both ends have from TLS.
+/// fn secret() -> QuicSecret {
+///     QuicSecret::new(Version::One, Secret::aes_128_gcm([1; 32]))
+/// }
+///
+/// /// Returns a packet of the peer, with a short header and a number of one byte.
+/// fn packet_of(peer: &mut Sender, frames: &[u8]) -> Result<Vec<u8>, Box<dyn Error>> {
+///     let mut packet = [&[0x40], &ID[..], &[0], frames, &[0; 16]].concat();
+///     peer.send(&mut packet, 9..10, FixedBit::Required)?;
+///     Ok(packet)
+/// }
+///
+/// let mut peer = Sender::from_secret(secret(), 0)?;
+/// let mut receiver = Receiver::from_secret(secret());
+/// let mut space = Space::<2>::new();
+/// let mut failures = Failures::new();
+///
+/// let packet = packet_of(&mut peer, b"\x08\0hello")?;
+/// let parts = packet_at(&packet, 0, ID.len(), FixedBit::Required)?;
+///
+/// let mut forged = packet.clone();
+/// forged[12] ^= 1;
+/// let refused = receiver.receive(&mut space, &mut failures, &mut forged, &parts);
+/// assert_eq!(refused, Err(ReceiveError::Refused));
+/// assert_eq!(failures.count(), 1);
+///
+/// let mut datagram = packet.clone();
+/// let received = receiver.receive(&mut space, &mut failures, &mut datagram, &parts)?;
+/// assert_eq!(datagram[received.payload], *b"\x08\0hello");
+/// let mut again = packet.clone();
+/// let refused = receiver.receive(&mut space, &mut failures, &mut again, &parts);
+/// assert_eq!(refused, Err(ReceiveError::Duplicate));
+///
+/// // The handshake is confirmed, so the peer may update its keys. The next key opens its packet, and
+/// // becomes the current one.
+/// receiver.set_next()?;
+/// peer.confirm_handshake();
+/// peer.initiate_update()?;
+/// let mut datagram = packet_of(&mut peer, b"\x08\0again")?;
+/// let parts = packet_at(&datagram, 0, ID.len(), FixedBit::Required)?;
+/// let received = receiver.receive(&mut space, &mut failures, &mut datagram, &parts)?;
+/// assert_eq!((received.number, received.phase), (1, true));
+/// assert!(receiver.phase());
+///
+/// // The ranges of an ACK frame, and what the timer of three probe timeouts calls.
+/// assert!(space.ranges().eq([0..2]));
+/// receiver.forget_previous();
+/// # Ok::<(), Box<dyn Error>>(())
 /// ```
 ///
 /// <details><summary>Model</summary>

@@ -32,7 +32,59 @@ pub const CONFIDENTIALITY_LIMIT: u64 = 1 << 23;
 ///
 /// # Examples
 ///
+/// A sender has the numbers of one encryption level. `next_number_len` tells how many bytes the next number needs, and
+/// `acknowledged_in` keeps that low. The limit of the key calls for a key update, which the sender allows once a packet of the
+/// current keys is acknowledged:
+///
 /// ```
+/// # use key_derivation as deerlapse_key_derivation;
+/// use std::error::Error;
+///
+/// use deerlapse_key_derivation::Secret;
+/// use deerlapse_quic::{
+///     FixedBit, KeyError, QuicSecret, SendError, Sender, ShortHeader, TAG_LEN, Version,
+/// };
+///
+/// /// The connection ID of the peer.
+/// const ID: [u8; 8] = [4; 8];
+///
+/// /// Returns the number of a packet with these frames, and the packet.
+/// fn send(sender: &mut Sender, frames: &[u8]) -> Result<(u64, Vec<u8>), Box<dyn Error>> {
+///     let number_len = sender.next_number_len().ok_or(SendError::NumberTooFar)?;
+///     let header = ShortHeader {
+///         destination_id: &ID,
+///         phase: sender.phase(),
+///         number_len,
+///     };
+///     let mut packet = vec![0; 1 + ID.len() + number_len];
+///     let room = header.write(&mut packet)?;
+///     packet.extend(frames);
+///     packet.extend([0; TAG_LEN]);
+///     let number = sender.send(&mut packet, room, FixedBit::Required)?;
+///     Ok((number, packet))
+/// }
+///
+/// let secret = QuicSecret::new(Version::One, Secret::aes_128_gcm([1; 32]));
+/// let mut sender = Sender::from_secret(secret, 0)?.with_limit(2);
+/// let (number, packet) = send(&mut sender, b"\x08\0hello")?;
+/// assert_eq!((number, packet.len()), (0, 1 + 8 + 1 + 7 + 16));
+/// assert_eq!(sender.remaining(), 1);
+///
+/// // The first key update waits for the handshake alone.
+/// assert_eq!(
+///     sender.initiate_update(),
+///     Err(KeyError::HandshakeUnconfirmed)
+/// );
+/// sender.confirm_handshake();
+/// sender.initiate_update()?;
+/// let (number, _) = send(&mut sender, b"\x08\0again")?;
+/// assert_eq!((number, sender.phase(), sender.remaining()), (1, true, 1));
+///
+/// // The peer has acknowledged packet 1 in a packet of this phase.
+/// assert_eq!(sender.initiate_update(), Err(KeyError::PhaseUnacknowledged));
+/// sender.acknowledged_in(1, true)?;
+/// sender.initiate_update()?;
+/// # Ok::<(), Box<dyn Error>>(())
 /// ```
 ///
 /// <details><summary>Model</summary>
