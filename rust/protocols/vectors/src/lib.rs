@@ -1,5 +1,6 @@
-//! The tests of the packages.
+//! What the tests of the packages share.
 
 #![forbid(unsafe_code)]
 
 pub mod files;
+pub mod quic;

@@ -86,8 +86,8 @@ fn hmac_by_rfc_4231() {
     }
 }
 
-/// By python's `hmac` and `hashlib`: the length of a key, and the SHA-256 of the codes of the texts of 0 to 200 bytes, one after
-/// another, by SHA-256 and SHA-384. Byte i of the key is 7 i + 1, and of the texts 7 i + 2, modulo 256.
+/// By python's `hmac` and `hashlib`: the length of a key, and the SHA-256 of the codes of the texts of 0 to 200 bytes, one
+/// after another, by SHA-256 and SHA-384. Byte i of the key is 7 i + 1, and of the texts 7 i + 2, modulo 256.
 const CODES_OF_LENGTHS: [(usize, &str, &str); 7] = [
     (
         0,
@@ -334,8 +334,8 @@ const TO_HELLO: &str = "860c06edc07858ee8e78f0e7428c58edd6b43f2ca3e6e95f02ed063c
 /// The hash of the messages up to the server's Finished.
 const TO_FINISHED: &str = "9608102a0f1ccc6db6250b7b7e417b1a000eaada3daae4777a7686c9ff83df13";
 
-/// RFC 8448 section 3: a secret, a label, a context, and what HKDF-Expand-Label gives. If the context is a hash of messages, so does
-/// Derive-Secret.
+/// RFC 8448 section 3: a secret, a label, a context, and what HKDF-Expand-Label gives. If the context is a hash of messages, so
+/// does Derive-Secret.
 const LABELED: [[&str; 4]; 8] = [
     [HANDSHAKE, "c hs traffic", TO_HELLO, CLIENT_HANDSHAKE],
     [HANDSHAKE, "s hs traffic", TO_HELLO, SERVER_HANDSHAKE],
@@ -428,7 +428,8 @@ type Traffic = (
     Option<&'static str>,
 );
 
-/// RFC 8448 section 3, which has no KeyUpdate: the secrets of the client and of the server, for the handshake and for application data.
+/// RFC 8448 section 3, which has no KeyUpdate: the secrets of the client and of the server, for the handshake and for
+/// application data.
 const TRAFFIC_OF_RFC_8448: [Traffic; 4] = [
     (
         Suite::Aes128Gcm,
@@ -753,8 +754,8 @@ fn pbkdf2_by_hashlib() {
     is_derived::<Sha384>("password", "salt", 2, BY_HASHLIB_SHA_384);
 }
 
-/// A secret, a label, a context and a length, and the error by which HKDF-Expand-Label refuses them. The label is checked first,
-/// and then the context.
+/// A secret, a label, a context and a length, and the error by which HKDF-Expand-Label refuses them. The label is checked
+/// first, and then the context.
 const REFUSED_LABELS: [(usize, usize, usize, DerivationError); 6] = [
     (0, 256, 8161, DerivationError::LabelLength),
     (250, 256, 8161, DerivationError::LabelLength),
@@ -892,8 +893,8 @@ fn no_byte_is_printed() {
 /// Returns the bytes that a value leaves in its memory when it is dropped.
 fn left<T>(value: T) -> Vec<u8> {
     let mut place = MaybeUninit::new(value);
-    // SAFETY: the place holds a value, which is dropped once. The volatile reads stay within the place. They may read padding, of
-    // which the test only asks what the memory holds.
+    // SAFETY: the place holds a value, which is dropped once. The volatile reads stay within the place. They may read padding,
+    // of which the test only asks what the memory holds.
     unsafe {
         place.as_mut_ptr().drop_in_place();
         (0..size_of::<T>())
