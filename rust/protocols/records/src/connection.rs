@@ -64,7 +64,97 @@ pub struct Parts {
 ///
 /// # Examples
 ///
+/// Each event of a connection calls for one call:
+///
+/// - The handshake has ended: `new`, with the first application traffic secret of each direction.
+/// - Bytes have arrived: `receive`. The caller drops the bytes of the records that it took, and keeps the others until more arrive.
+/// - There is data to send: `send`. If the peer has asked for a KeyUpdate, the answer goes before the data.
+/// - The keys are to change: `send_key_update`.
+/// - There is nothing more to send: `close`. The peer's data is received until its close_notify, after which `is_ended` is true.
+/// - `receive` has failed: `abort` with the error's alert. `Alert` and `Ended` have none, and nothing is sent after them.
+/// - The stream has ended, and `is_ended` is false: an attacker may have cut it (RFC 8446 section 6.1). What came is not all.
+///
+/// A call that sends and fails has written nothing. After `OutOfMemory` it may be made again, and after `KeyUsedUp` with less content.
+///
 /// ```
+/// # use key_derivation as deerlapse_key_derivation;
+/// use deerlapse::tls_messages::Stage;
+/// use deerlapse_key_derivation::Secret;
+/// use deerlapse_tls::connection::{Connection, KeyUpdateRequest, ReceiveError, Received};
+/// use deerlapse_tls::{Reader, Writer};
+/// use std::error::Error;
+///
+/// /// Makes both ends of a connection, of the secrets that the handshake has derived.
+/// fn ends<'b>(client: &'b mut [u8], server: &'b mut [u8]) -> (Connection<'b>, Connection<'b>) {
+///     let of_client = || Secret::aes_128_gcm([7; 32]);
+///     let of_server = || Secret::aes_128_gcm([8; 32]);
+///     let reader = Reader::from_secret(of_server());
+///     let writer = Writer::from_secret(of_client());
+///     let client = Connection::new(reader, writer, client, Stage::Client);
+///     let reader = Reader::from_secret(of_client());
+///     let writer = Writer::from_secret(of_server());
+///     let server = Connection::new(reader, writer, server, Stage::Server);
+///     (client, server)
+/// }
+///
+/// /// Receives what has arrived. If that fails, the alert for the peer is in `out`.
+/// fn receive(
+///     end: &mut Connection<'_>,
+///     arrived: &mut Vec<u8>,
+///     out: &mut Vec<u8>,
+/// ) -> Result<Received, Box<dyn Error>> {
+///     let mut received = Received::new();
+///     match end.receive(arrived, &mut received) {
+///         Ok(taken) => {
+///             arrived.drain(..taken);
+///             Ok(received)
+///         }
+///         Err(error) => {
+///             match error.alert() {
+///                 Some(alert) if !end.is_closed() => end.abort(alert, out)?,
+///                 _ => {}
+///             }
+///             Err(error.into())
+///         }
+///     }
+/// }
+///
+/// fn main() -> Result<(), Box<dyn Error>> {
+///     let (mut of_client, mut of_server) = ([0; 4096], [0; 4096]); // for handshake messages
+///     let (mut client, mut server) = ends(&mut of_client, &mut of_server);
+///     let (mut to_client, mut to_server) = (Vec::new(), Vec::new());
+///
+///     client.send(b"a request", &mut to_server)?;
+///     let received = receive(&mut server, &mut to_server, &mut to_client)?;
+///     assert_eq!(received.application_data, b"a request");
+///
+///     // The server changes its key, and asks the client to change its own.
+///     server.send_key_update(KeyUpdateRequest::Requested, &mut to_client)?;
+///     server.send(b"a response", &mut to_client)?;
+///     let received = receive(&mut client, &mut to_client, &mut to_server)?;
+///     assert_eq!(received.application_data, b"a response");
+///     assert!(client.owes_update());
+///     client.send(b"another request", &mut to_server)?;
+///     assert!(!client.owes_update());
+///
+///     // The client has no more data, and then the server has none.
+///     client.close(&mut to_server)?;
+///     let received = receive(&mut server, &mut to_server, &mut to_client)?;
+///     assert_eq!(received.application_data, b"another request");
+///     assert!(server.is_ended());
+///     server.close(&mut to_client)?;
+///     receive(&mut client, &mut to_client, &mut to_server)?;
+///     assert!(client.is_ended());
+///
+///     // A record is changed on its way. The server ends the connection by an alert, bad_record_mac.
+///     let (mut client, mut server) = ends(&mut of_client, &mut of_server);
+///     client.send(b"a request", &mut to_server)?;
+///     to_server[5] ^= 1;
+///     assert!(receive(&mut server, &mut to_server, &mut to_client).is_err());
+///     let error = client.receive(&mut to_client, &mut Received::new());
+///     assert_eq!(error, Err(ReceiveError::Alert(20)));
+///     Ok(())
+/// }
 /// ```
 ///
 /// <details><summary>Model</summary>

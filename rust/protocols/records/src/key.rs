@@ -30,7 +30,33 @@ fn algorithm_of(suite: Suite) -> &'static Algorithm {
 ///
 /// # Examples
 ///
+/// Seals the close_notify of the client of RFC 8448 section 3, its record 1, and opens it again. The caller counts the records: the
+/// record doesn't open under another number.
+///
 /// ```
+/// use deerlapse::aead::AES_128_GCM;
+/// use deerlapse_tls::{CLOSE_NOTIFY, ContentType, HEADER_LEN, RecordError, RecordKey};
+///
+/// fn main() -> Result<(), RecordError> {
+///     let key = 0x17422dda_596ed5d9_acd890e3_c63f5051_u128.to_be_bytes();
+///     let iv = *b"\x5b\x78\x92\x3d\xee\x08\x57\x90\x33\xe5\x23\xd9";
+///     let key = RecordKey::new(&AES_128_GCM, &key, iv)?;
+///
+///     // The content is sealed where the record has it, after its header.
+///     let mut bytes = [0; 24];
+///     bytes[HEADER_LEN..HEADER_LEN + 2].copy_from_slice(&CLOSE_NOTIFY);
+///     let len = key.seal_at(1, ContentType::Alert, &mut bytes, 2, 0)?;
+///     assert_eq!(len, 24);
+///     let record = b"\x17\x03\x03\x00\x13\xc9\x87\x27\x60\x65\x56\x66\
+///         \xb7\x4d\x7f\xf1\x15\x3e\xfd\x6d\xb6\xd0\xb0\xe3";
+///     assert_eq!(&bytes, record);
+///
+///     assert_eq!(key.open_at(2, &mut bytes), Err(RecordError::Refused));
+///     let (content_type, len) = key.open_at(1, &mut bytes)?;
+///     assert_eq!(content_type, ContentType::Alert);
+///     assert_eq!(bytes[HEADER_LEN..HEADER_LEN + len], CLOSE_NOTIFY);
+///     Ok(())
+/// }
 /// ```
 ///
 /// <details><summary>Model</summary>

@@ -21,7 +21,42 @@ const MAX_RECORDS: u64 = u64::MAX;
 ///
 /// # Examples
 ///
+/// Reads the records that have arrived, and gathers their contents at the front of the buffer. A record that was changed on its way
+/// closes the reader, and the caller ends the connection by the alert of the error.
+///
 /// ```
+/// # use key_derivation as deerlapse_key_derivation;
+/// use deerlapse_key_derivation::Secret;
+/// use deerlapse_tls::ContentType::ApplicationData;
+/// use deerlapse_tls::{AlertDescription, Begins, Reader, RecordError, RecordKind, Writer, classify};
+///
+/// fn main() -> Result<(), RecordError> {
+///     let secret = || Secret::aes_128_gcm([7; 32]);
+///     let mut writer = Writer::from_secret(secret());
+///     let mut bytes = Vec::new();
+///     writer.write(ApplicationData, b"hel", 0, &mut bytes)?;
+///     writer.write(ApplicationData, b"lo", 14, &mut bytes)?;
+///
+///     let mut reader = Reader::from_secret(secret());
+///     let (mut filled, mut at) = (0, 0);
+///     while let Begins::Record(RecordKind::Protected, len) = classify(&bytes[at..])? {
+///         let (content_type, content_len) = reader.gather(&mut bytes, filled, at, at + len)?;
+///         assert_eq!(content_type, ApplicationData);
+///         filled += content_len;
+///         at += len;
+///     }
+///     assert_eq!(&bytes[..filled], b"hello");
+///     assert_eq!(reader.number(), 2);
+///
+///     let mut record = Vec::new();
+///     writer.write(ApplicationData, b"more", 0, &mut record)?;
+///     record[5] ^= 1;
+///     let error = reader.read(&mut record).unwrap_err();
+///     assert_eq!(error, RecordError::Refused);
+///     assert_eq!(error.alert(), Some(AlertDescription::BadRecordMac));
+///     assert!(reader.is_closed());
+///     Ok(())
+/// }
 /// ```
 ///
 /// <details><summary>Model</summary>

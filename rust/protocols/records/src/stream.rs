@@ -36,7 +36,48 @@ pub enum Begins {
 ///
 /// # Examples
 ///
+/// Takes the first record of a stream before the peer's Finished: opens a protected record, and drops a ChangeCipherSpec. The peer's
+/// plaintext messages came before.
+///
 /// ```
+/// # use key_derivation as deerlapse_key_derivation;
+/// use deerlapse_key_derivation::Secret;
+/// use deerlapse_tls::{Begins, ContentType, Reader, RecordError, RecordKind, Writer, classify};
+///
+/// /// Returns the number of bytes taken, which is 0 if more are needed, and the type and the length of the content of a record that
+/// /// was opened, which is then at the front of the stream.
+/// fn take_record(
+///     reader: &mut Reader,
+///     stream: &mut [u8],
+/// ) -> Result<(usize, Option<(ContentType, usize)>), RecordError> {
+///     match classify(stream)? {
+///         Begins::Record(RecordKind::Protected, len) => {
+///             let content = reader.gather(stream, 0, 0, len)?;
+///             Ok((len, Some(content)))
+///         }
+///         Begins::Record(RecordKind::ChangeCipherSpec, len) => Ok((len, None)),
+///         Begins::Record(RecordKind::Handshake | RecordKind::Alert, _) => {
+///             Err(RecordError::UnexpectedRecord)
+///         }
+///         Begins::MoreNeeded(_) => Ok((0, None)),
+///     }
+/// }
+///
+/// fn main() -> Result<(), RecordError> {
+///     let secret = || Secret::aes_128_gcm([7; 32]);
+///     let mut stream = vec![20, 3, 3, 0, 1, 1]; // a ChangeCipherSpec
+///     let finished = [20, 0, 0, 1, 9];
+///     Writer::from_secret(secret()).write(ContentType::Handshake, &finished, 0, &mut stream)?;
+///
+///     let mut reader = Reader::from_secret(secret());
+///     assert_eq!(take_record(&mut reader, &mut stream), Ok((6, None)));
+///     let record = &mut stream[6..];
+///     assert_eq!(classify(&record[..26]), Ok(Begins::MoreNeeded(27)));
+///     let content = Some((ContentType::Handshake, 5));
+///     assert_eq!(take_record(&mut reader, record), Ok((27, content)));
+///     assert_eq!(record[..5], finished);
+///     Ok(())
+/// }
 /// ```
 ///
 /// <details><summary>Contract</summary>

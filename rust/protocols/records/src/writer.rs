@@ -15,7 +15,34 @@ use key_derivation::Secret;
 ///
 /// # Examples
 ///
+/// Writes a server's handshake messages in records that the client's RecordSizeLimit allows, and then application data under a secret
+/// of its own, over a KeyUpdate.
+///
 /// ```
+/// # use key_derivation as deerlapse_key_derivation;
+/// use deerlapse::tls_messages::message_type::KEY_UPDATE;
+/// use deerlapse_key_derivation::Secret;
+/// use deerlapse_tls::{ContentType, RecordError, Side, Writer};
+///
+/// fn main() -> Result<(), RecordError> {
+///     let size_limit = Side::Server.size_limit_of(512)?; // what the client sent
+///     let messages = [0; 1000]; // in place of EncryptedExtensions to Finished
+///     let mut out = Vec::new();
+///     let mut writer = Writer::from_secret(Secret::aes_128_gcm([7; 32]));
+///     writer.set_size_limit(size_limit)?;
+///     writer.write_content(ContentType::Handshake, &messages, 0, &mut out)?;
+///     assert_eq!(writer.number(), 2);
+///     assert_eq!(out.len(), 1000 + 2 * 22);
+///
+///     let mut writer = Writer::from_secret(Secret::aes_128_gcm([8; 32]));
+///     writer.set_size_limit(size_limit)?;
+///     writer.write(ContentType::ApplicationData, b"hello", 11, &mut out)?; // as long as 16 bytes
+///     let not_requested = [KEY_UPDATE, 0, 0, 1, 0];
+///     writer.write(ContentType::Handshake, &not_requested, 0, &mut out)?;
+///     writer.update()?;
+///     assert_eq!(writer.number(), 0);
+///     writer.close_notify(&mut out)
+/// }
 /// ```
 ///
 /// <details><summary>Model</summary>
