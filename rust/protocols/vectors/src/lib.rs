@@ -4,3 +4,4 @@
 
 pub mod files;
 pub mod quic;
+pub mod tls;
