@@ -7,6 +7,7 @@ use deerlapse::aead::{
     AES_256_GCM, Aad, BoundKey, CounterSequence, LessSafeKey, Nonce, OpeningKey, SealingKey,
     UnboundKey,
 };
+use deerlapse::memory::{AllocError, AllocFailed, TryGrow, try_to_vec, try_with_capacity};
 use deerlapse::session::{self, Job, Operation, Outcome};
 use deerlapse::xaes::{XNonce, Xaes256Gcm};
 
@@ -118,4 +119,84 @@ fn a_refused_extended_key_changes_nothing() {
         key.seal_in_place_append_tag(nonce(), Aad::empty(), &mut buffer)
             .is_ok()
     );
+}
+
+/// A call that grows a `Vec` by four items or fails.
+type Grows = fn(&mut Vec<u8>) -> Result<(), AllocError>;
+
+/// The calls of `TryGrow` that append four items, and what a `Vec` then ends with.
+const GROWS: [(Grows, [u8; 4]); 3] = [
+    (|it| it.try_extend_from_slice(b"four"), *b"four"),
+    (|it| it.try_resize(it.len() + 4, 7), [7; 4]),
+    (
+        |it| {
+            it.try_grow(4)?;
+            it.extend_from_slice(b"room");
+            Ok(())
+        },
+        *b"room",
+    ),
+];
+
+#[test]
+fn a_refused_vec_is_unchanged() {
+    for (grows, end) in GROWS {
+        for room in 0..4 {
+            let mut items = buffer_of(b"items", room);
+            let capacity = items.capacity();
+            assert_eq!(refused(|| grows(&mut items)), Err(AllocError));
+            assert_eq!((&items[..], items.capacity()), (&b"items"[..], capacity));
+            assert_eq!(grows(&mut items), Ok(()));
+            assert_eq!(items, [b"items", &end[..]].concat());
+        }
+        let mut items = buffer_of(b"items", 4);
+        assert_eq!(refused(|| grows(&mut items)), Ok(()));
+        assert_eq!(items, [b"items", &end[..]].concat());
+    }
+}
+
+#[test]
+fn a_refused_item_is_given_back() {
+    let mut items = buffer_of(b"items", 0);
+    let failed = AllocFailed { value: 7 };
+    assert_eq!(refused(|| items.try_push(7)), Err(failed));
+    assert_eq!((&items[..], items.capacity()), (&b"items"[..], 5));
+    let mut roomy = buffer_of(b"items", 1);
+    assert_eq!(refused(|| roomy.try_push(7)), Ok(()));
+    assert_eq!(items.try_push(7), Ok(()));
+    assert_eq!(items, b"items\x07");
+    assert_eq!(items, roomy);
+}
+
+/// A call that makes a `Vec` shorter, or adds nothing, asks nothing of the allocator.
+#[test]
+fn a_vec_that_does_not_grow_is_not_refused() {
+    let mut items = buffer_of(b"items", 0);
+    assert_eq!(refused(|| items.try_grow(0)), Ok(()));
+    assert_eq!(refused(|| items.try_extend_from_slice(b"")), Ok(()));
+    assert_eq!(refused(|| items.try_resize(5, 7)), Ok(()));
+    assert_eq!(items, b"items");
+    assert_eq!(refused(|| items.try_resize(2, 7)), Ok(()));
+    assert_eq!(items, b"it");
+}
+
+/// No allocator has so much memory.
+#[test]
+fn more_than_a_vec_can_hold_is_refused() {
+    let mut items = buffer_of(b"items", 0);
+    assert_eq!(items.try_grow(usize::MAX), Err(AllocError));
+    assert_eq!(items.try_resize(usize::MAX, 7), Err(AllocError));
+    assert_eq!(items, b"items");
+    assert_eq!(try_with_capacity::<u64>(usize::MAX), Err(AllocError));
+}
+
+#[test]
+fn a_refused_new_vec_is_an_error() {
+    assert_eq!(refused(|| try_with_capacity::<u8>(5)), Err(AllocError));
+    assert_eq!(refused(|| try_to_vec(b"items")), Err(AllocError));
+    assert_eq!(refused(|| try_with_capacity::<u8>(0)), Ok(Vec::new()));
+    assert_eq!(refused(|| try_to_vec::<u8>(&[])), Ok(Vec::new()));
+    let mut items = try_with_capacity(5).expect("memory");
+    assert_eq!(refused(|| items.try_extend_from_slice(b"items")), Ok(()));
+    assert_eq!(try_to_vec(b"items"), Ok(items));
 }
