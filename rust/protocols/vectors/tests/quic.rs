@@ -2,8 +2,8 @@
 
 use std::ops::Range;
 
+use deerlapse_protocols_vectors::quic::End;
 use key_derivation::Secret;
-use protocols_vectors::quic::End;
 use quic_packets::{
     FixedBit, HeaderKey, KeyError, Keys, LongHeader, LongType, Packet, PacketKey, PacketType,
     QuicSecret, ReceiveError, Receiver, RetryError, SendError, Sender, Suite, Version, algorithm,

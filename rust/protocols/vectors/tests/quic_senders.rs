@@ -4,8 +4,8 @@ use std::error::Error;
 use std::ops::Range;
 
 use deerlapse::aead::Tag;
+use deerlapse_protocols_vectors::quic::End;
 use key_derivation::Secret;
-use protocols_vectors::quic::End;
 use quic_packets::{
     DatagramError, Failures, FixedBit, HeaderError, HeaderKey, KeyError, Keys, MaskError,
     NumberError, Packet, PacketKey, PacketType, QuicSecret, ReceiveError, Receiver, RetryError,
