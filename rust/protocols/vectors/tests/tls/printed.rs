@@ -74,12 +74,18 @@ const RUNS: [Run; 2] = [
 fn records_are_written_and_read() -> Result<(), Box<dyn Error>> {
     for (algorithm, key, iv, printed) in RUNS {
         let mut writer = Writer::new(algorithm, key, iv)?;
+        let mut sealing = Writer::new(algorithm, key, iv)?;
         let mut reader = Reader::new(algorithm, key, iv)?;
         for (content_type, content, padding, record) in printed {
             let record = hex::bytes(record);
             let mut bytes = Vec::new();
             writer.write(content_type, content, padding, &mut bytes)?;
             assert_eq!(bytes, record);
+            let mut sealed = [&[9; 5][..], content, &vec![9; padding + 17 + 3]].concat();
+            let len = sealing.seal(content_type, &mut sealed, content.len(), padding)?;
+            assert_eq!(len, record.len());
+            assert_eq!(sealed, [&record[..], &[9; 3]].concat());
+            assert_eq!(sealing.number(), writer.number());
             assert_eq!(reader.read(&mut bytes)?, (content_type, content));
             let inner = [content, &[content_type.code()], &vec![0; padding]].concat();
             assert_eq!(bytes, [&inner[..], &record[inner.len()..]].concat());

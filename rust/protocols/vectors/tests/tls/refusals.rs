@@ -29,7 +29,7 @@ fn writer(limit: u64) -> Writer {
     writer
 }
 
-/// A call of a writer, with a buffer of 16 bytes.
+/// A call of a writer, with a `Vec` of 16 bytes.
 type Call = fn(&mut Writer, &mut Vec<u8>) -> Result<(), RecordError>;
 
 /// How many records the writer may write, and a call that it refuses.
@@ -162,6 +162,23 @@ fn a_refused_call_of_a_writer_changes_nothing() {
         let wanted = next_record(&mut self::writer(limit));
         assert_eq!(next_record(&mut writer), wanted, "call {at}");
     }
+}
+
+/// A writer takes its key under another IV, from number 0 on.
+#[test]
+fn a_writer_refuses_its_own_key_and_iv() -> Result<(), RecordError> {
+    for (algorithm, key) in [(&AES_128_GCM, &KEY[..16]), (&AES_256_GCM, &KEY)] {
+        let mut writer = Writer::new(algorithm, key, IV)?;
+        let first = next_record(&mut writer)?;
+        assert_eq!(writer.update_with(key, IV), Err(RecordError::SameKey));
+        assert_eq!(writer.number(), 1);
+        writer.update_with(key, [7; 12])?;
+        assert_eq!(writer.number(), 0);
+        assert_ne!(next_record(&mut writer)?, first);
+        writer.update_with(key, IV)?;
+        assert_eq!(next_record(&mut writer)?, first);
+    }
+    Ok(())
 }
 
 /// A writer and a reader of a secret take no key.
