@@ -1,9 +1,9 @@
 //! Makes the calls of a row of `bench/plain-protocols` by the Rust of `rust/protocols` or by the assembly of `dist/`:
 //! plain-protocols -c SIDE CALLS ROW, or plain-protocols -f LEVEL seal|open KEY IN OUT
 //!
-//! SIDE is `assembly`, or LEVEL: the name of a level of `simd`, by which the Rust then computes. ROW is a row of the table. What the
-//! calls made is printed, so that the sides can be compared. With a row that isn't known, the status is 3. With `-f`, the Rust
-//! seals or opens a file.
+//! SIDE is `assembly` or, like LEVEL, the name of a level of `simd`, by which the Rust then computes. ROW is a row of the table.
+//! What the calls made is printed, so that the sides can be compared. With a row that isn't known, the status is 3. With `-f`, the
+//! Rust seals or opens a file.
 
 #![deny(unsafe_code)]
 
