@@ -1,7 +1,7 @@
 //! Files as another program seals them, and files that don't open, each with the error and with what is written by then.
 //!
-//! The expected bytes and digests were made by `tools/open-sealed-file` of the repository, which implements the format in Python over
-//! `cryptography` and `hashlib`. The examples of `SEALED_FILE.md` are its too.
+//! The expected bytes and digests were made by `tools/open-sealed-file` of the repository, which implements the format in Python
+//! over `cryptography` and `hashlib`. The examples of `SEALED_FILE.md` are its too.
 
 use std::error::Error;
 use std::io;
@@ -87,8 +87,8 @@ fn assert_opens_by(key: &FileKey, aad: &[u8], sealed: &[u8], file: &[u8], end: &
     assert!(opened == file, "{} bytes are written", opened.len());
 }
 
-/// Opening these bytes under the key writes the first `len` bytes of the test file and ends so. In memory it ends so too, and an error
-/// leaves what was there.
+/// Opening these bytes under the key writes the first `len` bytes of the test file and ends so. In memory it ends so too, and an
+/// error leaves what was there.
 #[track_caller]
 fn assert_opens(sealed: &[u8], len: usize, end: &str) {
     let file = file_of(len);
@@ -261,8 +261,8 @@ fn an_empty_last_chunk_after_another() {
     assert_opens(&sealed, CHUNK_LEN, "Ok");
 }
 
-/// A chunk whose tag is right under the key and under the bytes 7: its first block solves the equation that both tags are one. Once it
-/// follows a header without a commitment, and once the header of the key.
+/// A chunk whose tag is right under the key and under the bytes 7: its first block solves the equation that both tags are one. Once
+/// it follows a header without a commitment, and once the header of the key.
 #[test]
 fn a_chunk_of_two_keys() {
     let other = FileKey::new(&[7; 32]).expect("a key of its length");

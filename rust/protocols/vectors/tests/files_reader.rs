@@ -40,8 +40,8 @@ fn file_with(bytes: &[u8]) -> File {
     file
 }
 
-/// Asserts that a call reads as many bytes of the file as there are up to the end of `buf`, of the chunk and of the file, and changes
-/// no more of `buf`.
+/// Asserts that a call reads as many bytes of the file as there are up to the end of `buf`, of the chunk and of the file, and
+/// changes no more of `buf`.
 #[track_caller]
 fn assert_reads<R: ReadAt>(reader: &mut SealedReader<R>, file: &[u8], at: usize, asked: usize) {
     let rest = file.get(at..).unwrap_or(&[]);

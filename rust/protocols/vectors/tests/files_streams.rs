@@ -35,8 +35,8 @@ fn ended(
     }
 }
 
-/// Asserts that a call writes `all`, and that with each read and each write that fails it returns the error of that one. It has then
-/// written a beginning.
+/// Asserts that a call writes `all`, and that with each read and each write that fails it returns the error of that one. It has
+/// then written a beginning.
 fn assert_fails_in_turn(call: Call, input: &[u8], all: &[u8]) {
     let whole = ended(call, input, 50_000, None, None);
     assert_eq!(end_of(whole.result), "Ok");
