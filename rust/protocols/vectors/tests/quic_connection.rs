@@ -505,7 +505,7 @@ fn limit_of_failures() {
 /// Sends until the key is used up, and returns the number of packets and the last one that a key update followed.
 fn sent_until_used_up(end: &mut Connection<2>) -> (usize, Option<u64>) {
     let mut last = None;
-    for count in 0.. {
+    for count in 0..20 {
         let (mut packet, number) = unsent(PacketType::OneRtt, &PING);
         let before = packet.clone();
         match end.send(Level::OneRtt, &mut packet, number) {
@@ -516,7 +516,7 @@ fn sent_until_used_up(end: &mut Connection<2>) -> (usize, Option<u64>) {
             }
         }
     }
-    unreachable!()
+    panic!("no key is used up")
 }
 
 /// A key of four packets (RFC 9001 section 6.6). Before the handshake is confirmed, the last one is kept for the packet that

@@ -151,7 +151,7 @@ const PHASES: [Arrival; 13] = [
 
 /// Packets under earlier keys than those of a lower number (RFC 9001 section 6.4): under the next, the current and the previous
 /// keys, also once the previous key is dropped, and after late packets of theirs.
-const EARLIER_KEYS: [Arrival; 18] = [
+const EARLIER_KEYS: [Arrival; 20] = [
     Comes(1, FIRST, 10),
     NextKey(2),
     Fails(2, SECOND, 9, KeyUpdate),
@@ -160,10 +160,12 @@ const EARLIER_KEYS: [Arrival; 18] = [
     Comes(2, SECOND, 19),
     Comes(1, FIRST, 8),
     Comes(2, SECOND, 11),
+    Fails(1, FIRST, 15, Refused),
     Comes(1, FIRST, 9),
     Fails(1, FIRST, 10, Duplicate),
     Comes(2, SECOND, 14),
     NextKey(3),
+    Fails(3, FIRST, 12, KeyUpdate),
     Comes(3, FIRST, 30),
     Fails(2, SECOND, 7, KeyUpdate),
     Comes(2, SECOND, 25),
@@ -212,7 +214,7 @@ fn receivers_take_packets_in_turn() {
     for (arrivals, limit, failures) in [
         (&EACH_NUMBER_ONCE[..], u64::MAX, 0),
         (&PHASES, u64::MAX, 3),
-        (&EARLIER_KEYS, u64::MAX, 0),
+        (&EARLIER_KEYS, u64::MAX, 1),
         (&LATE_PACKETS, u64::MAX, 0),
         (&ONE_SPACE, u64::MAX, 0),
         (&RESERVED_BITS, u64::MAX, 0),
@@ -576,12 +578,16 @@ fn senders_update_keys_and_skip_numbers() {
 fn ranges_of_skipped_numbers() {
     let mut sender = sender(0);
     sender.confirm_handshake();
-    for number in (1..16).step_by(2) {
+    for number in (1..6).step_by(2) {
         assert_eq!(sender.skip_to(number), Ok(()));
         is_sent(&mut sender, 1, false);
     }
     assert_eq!(sender.follow_update_with(&[2; 16], IV), Ok(()));
-    for number in [0, 2, 14] {
+    for number in (7..16).step_by(2) {
+        assert_eq!(sender.skip_to(number), Ok(()));
+        is_sent(&mut sender, 2, true);
+    }
+    for number in (0..16).step_by(2) {
         assert_eq!(sender.acknowledged(number), Err(NeverSent));
     }
     for number in (17..32).step_by(2) {
@@ -598,7 +604,7 @@ fn ranges_of_skipped_numbers() {
         sender.initiate_update_with(&[3; 16], IV),
         Err(PhaseUnacknowledged)
     );
-    assert_eq!(sender.acknowledged(17), Ok(()));
+    assert_eq!(sender.acknowledged(15), Ok(()));
     assert_eq!(sender.initiate_update_with(&[3; 16], IV), Ok(()));
 }
 
