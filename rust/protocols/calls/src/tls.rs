@@ -165,12 +165,8 @@ impl<'b> End<'b> {
         let number = words.number()?;
         let inner = words.bytes()?;
         let keys = secret.record_keys();
-        let len = (inner.len() + TAG_LEN) as u16;
-        let mut record = Vec::new();
-        record.extend_from_slice(&[23, 3, 3]);
-        record.extend_from_slice(&len.to_be_bytes());
-        record.extend_from_slice(&inner);
-        record.extend_from_slice(&[0; TAG_LEN]);
+        let [high, low] = ((inner.len() + TAG_LEN) as u16).to_be_bytes();
+        let mut record = [&[23, 3, 3, high, low], &inner[..], &[0; TAG_LEN]].concat();
         let key = PacketKey::new(algorithm(secret.suite()), keys.key.as_slice(), keys.iv)?;
         key.seal(number, &mut record, HEADER_LEN)?;
         say_bytes(answer, &record)?;
@@ -273,10 +269,10 @@ fn change_records(bytes: &mut Vec<u8>, words: &mut Words<'_>) -> Result<()> {
 
 /// The length of the first record, or 0 if it is not whole.
 fn first_len(bytes: &[u8]) -> usize {
-    if bytes.len() < HEADER_LEN {
+    let Some(&[_, _, _, high, low]) = bytes.first_chunk() else {
         return 0;
-    }
-    let len = HEADER_LEN + (usize::from(bytes[3]) << 8 | usize::from(bytes[4]));
+    };
+    let len = HEADER_LEN + usize::from(u16::from_be_bytes([high, low]));
     if len <= bytes.len() { len } else { 0 }
 }
 
