@@ -25,63 +25,63 @@ fn counted<const N: usize>() -> [u8; N] {
 }
 
 /// RFC 4231 sections 4.2 to 4.8: a key, a text, and its codes by SHA-256 and SHA-384. Those of section 4.6 are cut to 16 bytes.
-fn rfc_4231() -> [(Vec<u8>, Vec<u8>, &'static str, &'static str); 7] {
-    [
-        (
-            vec![0x0b; 20],
-            b"Hi There".to_vec(),
-            "b0344c61d8db38535ca8afceaf0bf12b881dc200c9833da726e9376c2e32cff7",
-            "afd03944d84895626b0825f4ab46907f15f9dadbe4101ec682aa034c7cebc59cfaea9ea9076ede7f4af152e8b2fa9cb6",
-        ),
-        (
-            b"Jefe".to_vec(),
-            b"what do ya want for nothing?".to_vec(),
-            "5bdcc146bf60754e6a042426089575c75a003f089d2739839dec58b964ec3843",
-            "af45d2e376484031617f78d2b58a6b1b9c7ef464f5a01b47e42ec3736322445e8e2240ca5e69e2c78b3239ecfab21649",
-        ),
-        (
-            vec![0xaa; 20],
-            vec![0xdd; 50],
-            "773ea91e36800e46854db8ebd09181a72959098b3ef8c122d9635514ced565fe",
-            "88062608d3e6ad8a0aa2ace014c8a86f0aa635d947ac9febe83ef4e55966144b2a5ab39dc13814b94e3ab6e101a34f27",
-        ),
-        (
-            (1..=25).collect(),
-            vec![0xcd; 50],
-            "82558a389a443c0ea4cc819899f2083a85f0faa3e578f8077a2e3ff46729665b",
-            "3e8a69b7783c25851933ab6290af6ca77a9981480850009cc5577c6e1f573b4e6801dd23c4a7d679ccf8a386c674cffb",
-        ),
-        (
-            vec![0x0c; 20],
-            b"Test With Truncation".to_vec(),
-            "a3b6167473100ee06e0c796c2955552b",
-            "3abf34c3503b2a23a46efc619baef897",
-        ),
-        (
-            vec![0xaa; 131],
-            b"Test Using Larger Than Block-Size Key - Hash Key First".to_vec(),
-            "60e431591ee0b67f0d8a26aacbf5b77f8e0bc6213728c5140546040f0ee37f54",
-            "4ece084485813e9088d2c63a041bc5b44f9ef1012a2b588f3cd11f05033ac4c60c2ef6ab4030fe8296248df163f44952",
-        ),
-        (
-            vec![0xaa; 131],
-            b"This is a test using a larger than block-size key and a larger than block-size data. \
-              The key needs to be hashed before being used by the HMAC algorithm."
-                .to_vec(),
-            "9b09ffa71b942fcb27635fbcd5b0e944bfdc63644f0713938a7f51535c3a35e2",
-            "6617178e941f020d351e2f254e8fd32c602420feb0b8fb9adccebb82461e99c5a678cc31e799176d3860e6110c46523e",
-        ),
-    ]
-}
+const RFC_4231: [(&[u8], &[u8], &str, &str); 7] = [
+    (
+        &[0x0b; 20],
+        b"Hi There",
+        "b0344c61d8db38535ca8afceaf0bf12b881dc200c9833da726e9376c2e32cff7",
+        "afd03944d84895626b0825f4ab46907f15f9dadbe4101ec682aa034c7cebc59cfaea9ea9076ede7f4af152e8b2fa9cb6",
+    ),
+    (
+        b"Jefe",
+        b"what do ya want for nothing?",
+        "5bdcc146bf60754e6a042426089575c75a003f089d2739839dec58b964ec3843",
+        "af45d2e376484031617f78d2b58a6b1b9c7ef464f5a01b47e42ec3736322445e8e2240ca5e69e2c78b3239ecfab21649",
+    ),
+    (
+        &[0xaa; 20],
+        &[0xdd; 50],
+        "773ea91e36800e46854db8ebd09181a72959098b3ef8c122d9635514ced565fe",
+        "88062608d3e6ad8a0aa2ace014c8a86f0aa635d947ac9febe83ef4e55966144b2a5ab39dc13814b94e3ab6e101a34f27",
+    ),
+    (
+        &[
+            1, 2, 3, 4, 5, 6, 7, 8, 9, 10, 11, 12, 13, 14, 15, 16, 17, 18, 19, 20, 21, 22, 23, 24,
+            25,
+        ],
+        &[0xcd; 50],
+        "82558a389a443c0ea4cc819899f2083a85f0faa3e578f8077a2e3ff46729665b",
+        "3e8a69b7783c25851933ab6290af6ca77a9981480850009cc5577c6e1f573b4e6801dd23c4a7d679ccf8a386c674cffb",
+    ),
+    (
+        &[0x0c; 20],
+        b"Test With Truncation",
+        "a3b6167473100ee06e0c796c2955552b",
+        "3abf34c3503b2a23a46efc619baef897",
+    ),
+    (
+        &[0xaa; 131],
+        b"Test Using Larger Than Block-Size Key - Hash Key First",
+        "60e431591ee0b67f0d8a26aacbf5b77f8e0bc6213728c5140546040f0ee37f54",
+        "4ece084485813e9088d2c63a041bc5b44f9ef1012a2b588f3cd11f05033ac4c60c2ef6ab4030fe8296248df163f44952",
+    ),
+    (
+        &[0xaa; 131],
+        b"This is a test using a larger than block-size key and a larger than block-size data. \
+              The key needs to be hashed before being used by the HMAC algorithm.",
+        "9b09ffa71b942fcb27635fbcd5b0e944bfdc63644f0713938a7f51535c3a35e2",
+        "6617178e941f020d351e2f254e8fd32c602420feb0b8fb9adccebb82461e99c5a678cc31e799176d3860e6110c46523e",
+    ),
+];
 
 #[test]
 fn hmac_by_rfc_4231() {
-    for (key, text, by_sha_256, by_sha_384) in rfc_4231() {
-        let code = hmac::<Sha256>(&key, &text);
-        assert_eq!(code, hmac_sha_256(&key, &text));
+    for (key, text, by_sha_256, by_sha_384) in RFC_4231 {
+        let code = hmac::<Sha256>(key, text);
+        assert_eq!(code, hmac_sha_256(key, text));
         same(&code[..by_sha_256.len() / 2], by_sha_256, "SHA-256");
-        let code = hmac::<Sha384>(&key, &text);
-        assert_eq!(code, hmac_sha_384(&key, &text));
+        let code = hmac::<Sha384>(key, text);
+        assert_eq!(code, hmac_sha_384(key, text));
         same(&code[..by_sha_384.len() / 2], by_sha_384, "SHA-384");
     }
 }
@@ -176,7 +176,7 @@ fn verifies_under_kept_key<H: Hash>(code: &str) {
 
 #[test]
 fn hmac_under_kept_keys() {
-    let (_, _, by_sha_256, by_sha_384) = &rfc_4231()[1];
+    let (_, _, by_sha_256, by_sha_384) = RFC_4231[1];
     verifies_under_kept_key::<Sha256>(by_sha_256);
     verifies_under_kept_key::<Sha384>(by_sha_384);
 }

@@ -146,26 +146,42 @@ fn initial_packets_by_keys() {
 fn initial_packets_by_senders_and_receivers() {
     for vector in Vector::all() {
         let mut packet = vector.unsent();
-        let header = LongHeader {
-            version: vector.version,
-            packet_type: LongType::Initial { token: &[] },
-            destination_id: if vector.is_client { &CLIENT_ID } else { &[] },
-            source_id: if vector.is_client { &[] } else { &SERVER_ID },
-            number_len: vector.number_range().len(),
-            payload_len: vector.payload.len(),
-        };
-        assert_eq!(header.write(&mut packet), Ok(vector.number_range()));
         let mut sender = Sender::from_secret(vector.secret(), vector.number).expect("a number");
         let sent = sender.send(&mut packet, vector.number_range(), FixedBit::Required);
         assert_eq!(sent, Ok(vector.number));
         assert_eq!(packet, vector.protected);
 
-        let parts = packet_at(&packet, 0, 0, FixedBit::Required).expect("a packet");
-        let ids = if vector.is_client {
-            (6..14, 15..15)
+        let mut end = End::new(Receiver::from_secret(vector.secret()));
+        let received = end.receive_whole(&mut packet, 0).expect("its keys");
+        assert_eq!((received.number, received.phase), (vector.number, false));
+        assert!(packet.starts_with(&vector.header));
+        assert_eq!(packet[received.payload], vector.payload);
+    }
+}
+
+#[test]
+fn headers_of_initial_packets() {
+    for vector in Vector::all() {
+        let (destination_id, source_id, ids) = if vector.is_client {
+            (&CLIENT_ID[..], &[][..], (6..14, 15..15))
         } else {
-            (6..6, 7..15)
+            (&[][..], &SERVER_ID[..], (6..6, 7..15))
         };
+        let header = LongHeader {
+            version: vector.version,
+            packet_type: LongType::Initial { token: &[] },
+            destination_id,
+            source_id,
+            number_len: vector.number_range().len(),
+            payload_len: vector.payload.len(),
+        };
+        let mut buffer = [0; 40];
+        assert_eq!(header.write(&mut buffer), Ok(vector.number_range()));
+        assert_eq!(
+            buffer[..vector.number_at],
+            vector.header[..vector.number_at]
+        );
+        let parts = packet_at(&vector.protected, 0, 0, FixedBit::Required);
         let wanted = Packet {
             start: 0,
             packet_type: PacketType::Initial,
@@ -174,14 +190,9 @@ fn initial_packets_by_senders_and_receivers() {
             source_id: ids.1,
             token: 16..16,
             number_at: Some(18),
-            end: packet.len(),
+            end: vector.protected.len(),
         };
-        assert_eq!(parts, wanted);
-        let mut end = End::new(Receiver::from_secret(vector.secret()));
-        let received = end.receive(&mut packet, &parts).expect("the vector's keys");
-        assert_eq!((received.number, received.phase), (vector.number, false));
-        assert!(packet.starts_with(&vector.header));
-        assert_eq!(packet[received.payload], vector.payload);
+        assert_eq!(parts, Ok(wanted));
     }
 }
 
@@ -219,48 +230,37 @@ const RETRIES: [(Version, &str); 2] = [
 #[test]
 fn retry_packets_by_rfc_9001_and_9369() {
     for (version, packet) in RETRIES {
-        let mut packet = hex::bytes(packet);
-        let other = RETRIES.map(|it| it.0).into_iter().find(|it| *it != version);
+        let packet = hex::bytes(packet);
         for cut in 0..=20 {
             let (header, rest) = packet.split_at(cut);
             let (token, tag) = rest.split_at(20 - cut);
             let made = retry_tag(version, &CLIENT_ID, header, token);
             assert_eq!(made.expect("a short packet").as_ref(), tag);
-            assert!(is_genuine_retry(version, &CLIENT_ID, header, rest));
-            assert!(!is_genuine_retry(version, &SERVER_ID, header, rest));
-            assert!(!is_genuine_retry(
-                other.expect("two versions"),
-                &CLIENT_ID,
-                header,
-                rest
-            ));
+            for of in [Version::One, Version::Two] {
+                let is_genuine = is_genuine_retry(of, &CLIENT_ID, header, rest);
+                assert_eq!(is_genuine, of == version);
+            }
         }
+    }
+}
+
+#[test]
+fn changed_retry_packets() {
+    for (version, packet) in RETRIES {
+        let mut packet = hex::bytes(packet);
+        let is_genuine = |id: &[u8], packet: &[u8], cut| {
+            is_genuine_retry(version, id, &packet[..cut], &packet[cut..])
+        };
         for bit in 0..8 * packet.len() {
             packet[bit / 8] ^= 1 << (bit % 8);
-            assert!(!is_genuine_retry(
-                version,
-                &CLIENT_ID,
-                &packet[..15],
-                &packet[15..]
-            ));
+            assert!(!is_genuine(&CLIENT_ID, &packet, 15));
             packet[bit / 8] ^= 1 << (bit % 8);
         }
-        assert!(!is_genuine_retry(
-            version,
-            &CLIENT_ID,
-            &packet[..21],
-            &packet[21..]
-        ));
-        assert!(!is_genuine_retry(
-            version,
-            &[0; 21],
-            &packet[..15],
-            &packet[15..]
-        ));
-        assert_eq!(
-            retry_tag(version, &[0; 21], &packet, &[]).err(),
-            Some(RetryError::IdTooLong)
-        );
+        assert!(!is_genuine(&SERVER_ID, &packet, 15));
+        assert!(!is_genuine(&[0; 21], &packet, 15));
+        assert!(!is_genuine(&CLIENT_ID, &packet, 21));
+        let made = retry_tag(version, &[0; 21], &packet, &[]);
+        assert_eq!(made.err(), Some(RetryError::IdTooLong));
     }
 }
 

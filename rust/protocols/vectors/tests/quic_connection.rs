@@ -140,88 +140,90 @@ fn received_all(end: &mut Connection<2>, mut datagram: Vec<u8>) -> Vec<(PacketTy
     found
 }
 
-/// A handshake with 0-RTT packets (RFC 9001 section 4.1 and RFC 9000 section 7): each datagram has the packets of several
-/// levels. At its end, nothing is left of the keys of Initial, 0-RTT and Handshake packets.
+/// Installs the secrets of a level, of this end and of its peer.
+fn install(end: &mut Connection<2>, level: Level, own: QuicSecret, peer: QuicSecret) {
+    assert_eq!(end.install_sender(level, own), Ok(()));
+    assert_eq!(end.install_receiver(level, peer), Ok(()));
+}
+
+/// A client and a server with the keys of Initial packets (RFC 9001 section 5.2).
+fn begun() -> [Connection<2>; 2] {
+    let client = || QuicSecret::client_initial(Version::One, &ID).expect("8 bytes");
+    let server = || QuicSecret::server_initial(Version::One, &ID).expect("8 bytes");
+    let mut ends = [0; 2].map(|_| Connection::new(FixedBit::Required));
+    install(&mut ends[0], Level::Initial, client(), server());
+    install(&mut ends[1], Level::Initial, server(), client());
+    ends
+}
+
+/// Sends a datagram with a packet of each of these types, all of which are received.
+fn fly(from: &mut Connection<2>, to: &mut Connection<2>, types: &[PacketType]) {
+    let packets: Vec<_> = types.iter().map(|it| sent(from, *it, &PING)).collect();
+    let wanted: Vec<_> = types.iter().map(|it| (*it, PING[0])).collect();
+    assert_eq!(received_all(to, packets.concat()), wanted);
+}
+
+/// A handshake with 0-RTT packets (RFC 9001 section 4.1): each datagram has the packets of several levels. The numbers of the
+/// client's 0-RTT packets go on.
 #[test]
 fn handshake() {
-    let (mut client, mut server) = (
-        Connection::<2>::new(FixedBit::Required),
-        Connection::<2>::new(FixedBit::Required),
-    );
-    let initial = [QuicSecret::client_initial, QuicSecret::server_initial];
-    let initial = |of: usize| initial[of](Version::One, &ID).expect("8 bytes");
-    for (end, own, peer) in [(&mut client, 0, 1), (&mut server, 1, 0)] {
-        assert_eq!(end.install_sender(Level::Initial, initial(own)), Ok(()));
-        assert_eq!(end.install_receiver(Level::Initial, initial(peer)), Ok(()));
-    }
-
-    // The client's 0-RTT packet comes before its keys.
+    use PacketType::{Handshake, Initial, OneRtt};
+    let [mut client, mut server] = begun();
     assert_eq!(client.install_sender(Level::OneRtt, secret(EARLY)), Ok(()));
     let mut early = sent(&mut client, PacketType::ZeroRtt, &PING);
     assert_eq!(received(&mut server, &mut early), Fate::NoKeys);
-    let hello = sent(&mut client, PacketType::Initial, &PING);
-    assert_eq!(received_all(&mut server, hello), [(PacketType::Initial, 1)]);
+    fly(&mut client, &mut server, &[Initial]);
     assert_eq!(server.install_zero_rtt_receiver(secret(EARLY)), Ok(()));
-    assert_eq!(received_all(&mut server, early), [(PacketType::ZeroRtt, 1)]);
+    assert_eq!(received(&mut server, &mut early), Fate::Received);
 
-    for (end, own, peer) in [
-        (&mut server, SERVER_HANDSHAKE, CLIENT_HANDSHAKE),
-        (&mut client, CLIENT_HANDSHAKE, SERVER_HANDSHAKE),
-    ] {
-        assert_eq!(end.install_sender(Level::Handshake, secret(own)), Ok(()));
-        assert_eq!(end.install_receiver(Level::Handshake, secret(peer)), Ok(()));
-    }
-    assert_eq!(server.install_sender(Level::OneRtt, secret(SERVER)), Ok(()));
-    let types = [
-        PacketType::Initial,
-        PacketType::Handshake,
-        PacketType::OneRtt,
-    ];
-    assert_eq!(
-        client.install_receiver(Level::OneRtt, secret(SERVER)),
-        Ok(())
+    let [of_client, of_server] = [CLIENT_HANDSHAKE, SERVER_HANDSHAKE];
+    install(
+        &mut server,
+        Level::Handshake,
+        secret(of_server),
+        secret(of_client),
     );
-    let flight = types.map(|it| sent(&mut server, it, &PING)).concat();
-    assert_eq!(received_all(&mut client, flight), types.map(|it| (it, 1)));
-
-    // The numbers of the client's 0-RTT packets go on.
-    assert_eq!(client.install_sender(Level::OneRtt, secret(CLIENT)), Ok(()));
+    install(
+        &mut client,
+        Level::Handshake,
+        secret(of_client),
+        secret(of_server),
+    );
+    assert_eq!(server.install_sender(Level::OneRtt, secret(SERVER)), Ok(()));
+    install(&mut client, Level::OneRtt, secret(CLIENT), secret(SERVER));
+    fly(&mut server, &mut client, &[Initial, Handshake, OneRtt]);
     assert_eq!(
         server.install_receiver(Level::OneRtt, secret(CLIENT)),
         Ok(())
     );
-    let types = [PacketType::Handshake, PacketType::OneRtt];
-    let flight = types.map(|it| sent(&mut client, it, &PING)).concat();
-    assert_eq!(received_all(&mut server, flight), types.map(|it| (it, 1)));
+    fly(&mut client, &mut server, &[Handshake, OneRtt]);
     assert!(server.space(Level::OneRtt).ranges().eq(Some(0..2)));
+}
 
-    for end in [&mut server, &mut client] {
-        end.confirm_handshake();
-        end.discard_zero_rtt();
-        for level in [Level::Initial, Level::Handshake] {
-            end.discard(level);
-            assert!(end.sender(level).is_none());
-            assert_eq!(
-                end.install_sender(level, secret(CLIENT)),
-                Err(KeyError::Discarded)
-            );
-            assert_eq!(
-                end.install_receiver(level, secret(CLIENT)),
-                Err(KeyError::Discarded)
-            );
-        }
-        assert_eq!(
-            end.install_zero_rtt_receiver(secret(EARLY)),
-            Err(KeyError::Discarded)
-        );
+/// RFC 9001 section 4.9: packets whose keys are dropped are ignored, and no keys can be installed for them. The numbers stay.
+#[test]
+fn dropped_keys() {
+    let mut end = server();
+    let mut late = sent(&mut client(), PacketType::Handshake, &PING);
+    assert_eq!(received(&mut end, &mut late.clone()), Fate::Received);
+    let mut early = sent(&mut client(), PacketType::ZeroRtt, &PING);
+    assert_eq!(received(&mut end, &mut early), Fate::NoKeys);
+    end.discard_zero_rtt();
+    for level in [Level::Initial, Level::Handshake] {
+        end.discard(level);
+        assert!(end.sender(level).is_none());
+        let discarded = Err(KeyError::Discarded);
+        assert_eq!(end.install_sender(level, secret(SERVER)), discarded);
+        assert_eq!(end.install_receiver(level, secret(CLIENT)), discarded);
+        assert_eq!(end.install_zero_rtt_receiver(secret(EARLY)), discarded);
     }
-    let mut late = sent(
-        &mut established::<2>(CLIENT_HANDSHAKE, SERVER),
-        PacketType::Handshake,
-        &PING,
-    );
-    assert_eq!(received(&mut server, &mut late), Fate::Ignored);
-    assert_eq!(server.space(Level::Handshake).largest(), Some(0));
+    for packet in [&mut late, &mut early] {
+        assert_eq!(received(&mut end, packet), Fate::Ignored);
+        *packet.last_mut().expect("a tag") ^= 1;
+        assert_eq!(received(&mut end, packet), Fate::Ignored);
+    }
+    assert_eq!(end.failures(), 0);
+    assert_eq!(end.space(Level::Handshake).largest(), Some(0));
 }
 
 /// A packet on its way.

@@ -688,48 +688,47 @@ fn keys_of_other_lengths_are_refused() {
     assert_eq!(receiver(1).set_next_with(&[1; 32], IV), Err(KeyLength));
 }
 
-/// Each call of a key by which 24 bytes with a header of 4 are refused.
+/// The key of the calls that are refused.
+fn packet_key() -> PacketKey {
+    PacketKey::new(algorithm(Suite::Aes128Gcm), &[1; 16], IV).expect("16 bytes")
+}
+
 #[test]
-fn refused_calls_of_a_packet_key_change_nothing() {
-    let key = PacketKey::new(algorithm(Suite::Aes128Gcm), &[1; 16], IV).expect("16 bytes");
-    let (header, mut bytes, tag) = ([7; 4], [7; 24], Tag::from([7; 16]));
-    for (number, error) in [
-        (LAST, ReceiveError::Refused),
-        (LAST + 1, ReceiveError::NumbersEnded),
-    ] {
+fn refused_openings_change_nothing() {
+    use ReceiveError::{NumbersEnded, OutputLength, TooShort};
+    let (key, header, tag) = (packet_key(), [7; 4], Tag::from([7; 16]));
+    let mut bytes = [7; 24];
+    for (number, error) in [(LAST, Refused), (LAST + 1, NumbersEnded)] {
         assert_eq!(key.open(number, &mut bytes, 4), Err(error));
         assert_eq!(key.open_payload(number, &header, &mut bytes), Err(error));
-        assert_eq!(
-            key.open_separate_tag(number, &header, &mut bytes, tag),
-            Err(error)
-        );
-        assert_eq!(
-            key.open_to(number, &header, &[7; 40], &mut bytes),
-            Err(error)
-        );
+        let opened = key.open_separate_tag(number, &header, &mut bytes, tag);
+        assert_eq!(opened, Err(error));
+        let opened = key.open_to(number, &header, &[7; 40], &mut bytes);
+        assert_eq!(opened, Err(error));
     }
-    assert_eq!(key.open(0, &mut bytes, 9), Err(ReceiveError::TooShort));
+    assert_eq!(key.open(0, &mut bytes, 9), Err(TooShort));
     assert_eq!(
         key.open_payload(0, &header, &mut bytes[..15]),
-        Err(ReceiveError::TooShort)
+        Err(TooShort)
     );
-    assert_eq!(
-        key.open_to(0, &header, &[7; 39], &mut bytes),
-        Err(ReceiveError::OutputLength)
-    );
-    let ended = SendError::NumbersEnded;
-    assert_eq!(key.seal(LAST + 1, &mut bytes, 4), Err(ended));
-    assert_eq!(
-        key.seal_to(LAST + 1, &header, &[7; 8], &mut bytes),
-        Err(ended)
-    );
+    let opened = key.open_to(0, &header, &[7; 39], &mut bytes);
+    assert_eq!(opened, Err(OutputLength));
+    assert_eq!(bytes, [7; 24]);
+}
+
+#[test]
+fn refused_sealings_change_nothing() {
+    use SendError::{NumbersEnded, OutputLength, TooShort};
+    let (key, header) = (packet_key(), [7; 4]);
+    let mut bytes = [7; 24];
+    assert_eq!(key.seal(LAST + 1, &mut bytes, 4), Err(NumbersEnded));
+    let sealed = key.seal_to(LAST + 1, &header, &[7; 8], &mut bytes);
+    assert_eq!(sealed, Err(NumbersEnded));
     let sealed = key.seal_separate_tag(LAST + 1, &header, &mut bytes);
-    assert_eq!(sealed.err(), Some(ended));
-    assert_eq!(key.seal(0, &mut bytes, 9), Err(SendError::TooShort));
-    assert_eq!(
-        key.seal_to(0, &header, &[7; 9], &mut bytes),
-        Err(SendError::OutputLength)
-    );
+    assert_eq!(sealed.err(), Some(NumbersEnded));
+    assert_eq!(key.seal(0, &mut bytes, 9), Err(TooShort));
+    let sealed = key.seal_to(0, &header, &[7; 9], &mut bytes);
+    assert_eq!(sealed, Err(OutputLength));
     assert_eq!(bytes, [7; 24]);
     assert_eq!(key.seal(LAST, &mut bytes, 4), Ok(()));
 }

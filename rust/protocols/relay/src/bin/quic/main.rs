@@ -213,13 +213,10 @@ impl QuicRelay {
         let mut at = 0;
         while at < bytes.len() {
             let end = self.end(from);
-            let parts = packet_at(&bytes, at, end.id_len, FixedBit::Greased);
-            if let Ok(parts) = &parts {
-                end.keep_first_handshake(from, parts, &bytes, &id);
-            }
+            let parts = end.packet_at(from, &bytes, at, &id);
             let step = end.connection.receive(&mut bytes, at, end.id_len, &id)?;
             match (step.incoming, parts) {
-                (Incoming::Packet(packet_type, received, update), Ok(parts)) => {
+                (Incoming::Packet(packet_type, received, update), Some(parts)) => {
                     let opened = Opened {
                         from,
                         packet_type,
@@ -365,15 +362,17 @@ impl End {
         }
     }
 
-    /// Keeps the peer's first Handshake packet.
-    fn keep_first_handshake(&mut self, from: Peer, parts: &Packet, datagram: &[u8], id: &[u8]) {
+    /// Finds the parts of the packet that begins at byte `at` of a datagram, and keeps the peer's first Handshake packet.
+    fn packet_at(&mut self, from: Peer, datagram: &[u8], at: usize, id: &[u8]) -> Option<Packet> {
+        let parts = packet_at(datagram, at, self.id_len, FixedBit::Greased).ok()?;
         if parts.packet_type == PacketType::Handshake && self.first_handshake.is_none() {
             self.first_handshake = Some(Kept {
                 from,
-                bytes: datagram[parts.start..parts.end].to_vec(),
+                bytes: datagram[at..parts.end].to_vec(),
                 id: id.to_vec(),
             });
         }
+        Some(parts)
     }
 
     /// Drops the Handshake keys, and receives the peer's first Handshake packet again, which has to be ignored.
