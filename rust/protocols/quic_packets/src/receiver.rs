@@ -97,7 +97,7 @@ pub struct Received {
 /// assert!(receiver.phase());
 ///
 /// // The ranges of an ACK frame, and what the timer of three probe timeouts calls.
-/// assert!(space.ranges().eq([0..2]));
+/// assert_eq!(space.ranges().next(), Some(0..2));
 /// receiver.forget_previous();
 /// # Ok::<(), Box<dyn Error>>(())
 /// ```
