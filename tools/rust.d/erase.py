@@ -290,9 +290,9 @@ def head_of(item):
 
 
 def before_item(text, added):
-    """Returns the text of an item with an attribute before it, after its comments, or with an import before these."""
+    """Returns the text of an item with an attribute before it, after its comments, or with other items before these."""
     lines = text.splitlines(keepends=True)
-    passed = ("//!",) if re.search(r"^use\b", added, re.M) else ("//",)
+    passed = ("//",) if re.fullmatch(r"#\[.*\]", added) else ("//!",)
     at = next(at for at, line in enumerate(lines) if line.strip() and not line.lstrip().startswith(passed))
     return "".join([*lines[:at], added + "\n", *lines[at:]])
 

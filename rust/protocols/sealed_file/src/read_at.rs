@@ -164,7 +164,6 @@ impl<T: AsRef<[u8]>> ReadAt for Cursor<T> {
     }
 }
 
-/// The bytes of a file from a position on.
 /// Reads once from a position of a file on.
 #[cfg(unix)]
 fn read_file_at(file: &File, buf: &mut [u8], at: u64) -> io::Result<usize> {
@@ -178,6 +177,7 @@ fn read_file_at(mut file: &File, buf: &mut [u8], at: u64) -> io::Result<usize> {
     file.read(buf)
 }
 
+/// The bytes of a file from a position on.
 struct FileFrom<'a> {
     file: &'a File,
     at: u64,
