@@ -1,8 +1,12 @@
 """Contracts, models and ghost items as sections of doc comments, and the errors of `thiserror` written out."""
 
+import textwrap
 import typing
 
 from tokens import group_end, made, next_of, parts, text_of
+
+# The length of a line of prose, without what stands before it in a comment.
+WIDTH = 120
 
 
 def documented(lead, title, shown, links):
@@ -20,6 +24,16 @@ def documented(lead, title, shown, links):
 def commented(lead, shown):
     """Returns the comments and attributes before an item that no page shows, with lines of logic after the doc comment."""
     return with_comment(lead, "//", shown)
+
+
+def with_panics(lead, reasons):
+    """Returns the comments and attributes before a function, with when it panics: before its examples or its contract."""
+    lines = lead.splitlines(keepends=True)
+    at = next(at for at, line in enumerate(lines) if line.lstrip().startswith(("/// # Examples", "/// <details>")))
+    indent = lines[at][: -len(lines[at].lstrip())]
+    said = "".join(f", if {reason}" for reason in reasons[1:-1]) + "".join(f", or if {reason}" for reason in reasons[1:][-1:])
+    section = ["# Panics", "", *textwrap.wrap(f"Panics if {reasons[0]}{said}.", WIDTH), ""]
+    return "".join([*lines[:at], *(f"{indent}/// {line}".rstrip() + "\n" for line in section), *lines[at:]])
 
 
 def has_docs(lead):

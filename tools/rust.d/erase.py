@@ -540,6 +540,8 @@ class Writer:
         if it.clauses:
             lead = self.with_contract(lead, it, item.is_public or place in ("trait", "trait impl"))
         it.body = executed(self.source, it.body)
+        if item.is_public and self.source.crate in lists.PROTOCOLS and any(clause.kind == "requires" for clause in it.clauses):
+            lead = self.checked(lead, it)
         it.parameters = parameters(self.source, it)
         it.generics = without_bounds(self.source, it.generics)
         it.where = where_bounds(self.source, it.where)
@@ -551,6 +553,16 @@ class Writer:
             return lead.replace("inline(never)", "inline(always)") + self.leveler.outlined(self.source, it)
         it = self.leveler.function(self.source, it, place)
         return lead + text_of(self.rewritten(made(text_of_function(it), item.line)))
+
+    def checked(self, lead, it):
+        """Has a function check what it requires, and returns what is before it, with a section that says so."""
+        key = (self.source.path, it.name)
+        if key not in lists.CHECKED:
+            raise self.source.fault(it.before[-1].line, f"nothing checks what `{it.name}` requires")
+        self.source.used.add(key)
+        checks = " ".join(f'assert!({condition}, "{said.replace("`", "")}");' for condition, said in lists.CHECKED[key])
+        it.body = [it.body[0], *made(f"\n{checks}\n", it.body[0].line), *it.body[1:]]
+        return contracts.with_panics(lead, [said for _, said in lists.CHECKED[key]])
 
     def with_contract(self, lead, it, is_shown):
         """Returns what is before a function, with its contract, of which what holds when a loan ends comes last: in the doc

@@ -146,6 +146,10 @@ DROPPED_NAMES = {
 
 # Lines that are added before an item or, for `body`, at the beginning of its block.
 ALLOC = "`Vec` is of the crate `alloc`, which a program without an allocator doesn't have."
+HAS_SECRET = Entry(
+    "/// Returns whether the key was derived from a traffic secret.\npub(crate) fn has_secret(&self) -> bool { self.secret.is_some() }\n",
+    "`Connection::new` checks it.",
+)
 GROWS = Entry("use deerlapse::memory::TryGrow;", "The calls of a `Vec` that may fail are its.")
 ADDED = {
     ("aead_ciphers_wide/aes.rt", "impl Width", "body"): Entry(
@@ -168,6 +172,8 @@ ADDED = {
     ("sealed_file/reader.rt", "use aead_ciphers::aead::MAX_TAG_LEN"): Entry("use deerlapse::memory::{TryGrow, try_with_capacity};", "The same."),
     ("sealed_file/stream.rt", "use crate::header::HEADER_LEN"): Entry("use deerlapse::memory::{TryGrow, try_with_capacity};", "The same."),
     ("sealed_file/random.rt", "use std::io"): Entry("use std::io::Read;", "Random bytes are drawn from a `Read`."),
+    ("records/reader.rt", "impl Reader", "body"): HAS_SECRET,
+    ("records/writer.rt", "impl Writer", "body"): HAS_SECRET,
     ("sealed_file/read_at.rt", "struct FileFrom"): Entry(
         "/// Reads once from a position of a file on.\n"
         "#[cfg(unix)]\n"
@@ -299,6 +305,42 @@ REWRITTEN = [
     ("`#[inline(never)] fn`", "a call by `V::outlined`", "A function of its own must be compiled for the level."),
     ("`fn`", "`#[inline(always)] fn`", "What jobs reach is compiled for the level only if it is inlined. The files are in `INLINED` of `tools/rust.d/lists.py`."),
 ]
+
+# What public functions of the packages in rust/protocols require, and check: conditions, each with what isn't so if it fails. Each
+# such function with a `requires` has an entry.
+OF_AAD = ("aad.len() <= crate::MAX_AAD_LEN", "`aad` has more than `MAX_AAD_LEN` bytes")
+OF_WINDOW = ("(2..=64).contains(&W)", "`W` isn't from 2 to 64")
+OF_RANGE = (
+    ("at <= end && end <= bytes.len()", "`at` and `end` aren't a range of `bytes`"),
+    ("filled <= at + crate::HEADER_LEN", "`filled` is beyond the header at `at`"),
+)
+OF_LEN = ("(1..=4).contains(&len)", "`len` isn't from 1 to 4")
+CHECKED = {
+    ("quic_packets/numbers.rt", "decode"): (OF_LEN, ("truncated >> (8 * len) == 0", "`truncated` has more than `len` bytes")),
+    ("quic_packets/numbers.rt", "truncated"): (OF_LEN, ("4 <= packet.len().saturating_sub(number_at)", "`packet` ends within four bytes after `number_at`")),
+    ("quic_packets/connection.rt", "new"): (OF_WINDOW,),
+    ("quic_packets/space.rt", "new"): (OF_WINDOW,),
+    ("records/reader.rt", "gather"): OF_RANGE,
+    ("records/reader/early_data.rt", "gather_past_early_data"): OF_RANGE,
+    ("records/header.rt", "header_of"): (("len < 65536", "`len` is 65,536 or more"),),
+    ("records/inner.rt", "write_type_and_padding"): (("content_len < inner.len()", "`inner` has no byte after the content"),),
+    ("records/connection.rt", "new"): (
+        ("reader.has_secret()", "`reader` has no secret, which `Reader::from_secret` gives it"),
+        ("writer.has_secret()", "`writer` has no secret, which `Writer::from_secret` gives it"),
+        ("crate::MIN_SIZE_LIMIT <= writer.size_limit()", "the size limit of `writer` is below `MIN_SIZE_LIMIT`"),
+        ("4 <= buffer.len()", "`buffer` has fewer than 4 bytes"),
+    ),
+    ("sealed_file/opening.rt", "open_with_aad"): (OF_AAD,),
+    ("sealed_file/sealing.rt", "seal_with_aad"): (OF_AAD,),
+    ("sealed_file/passphrase.rt", "seal_with_passphrase"): (
+        ("(1..=MAX_ITERATIONS).contains(&iterations)", "`iterations` is 0 or more than `MAX_ITERATIONS`"),
+        OF_AAD,
+    ),
+    ("sealed_file/passphrase.rt", "open_with_passphrase"): (OF_AAD,),
+    ("sealed_file/random_access.rt", "open_chunk_at"): (OF_AAD, ("sealed.len() <= crate::SEALED_CHUNK_LEN", "`sealed` has more than `SEALED_CHUNK_LEN` bytes")),
+    ("sealed_file/reader.rt", "new"): (OF_AAD,),
+    ("sealed_file/reader.rt", "with_buffer"): (OF_AAD,),
+}
 
 # Types of the vectors, whose operations a level chooses.
 VECTORS = {"u8x16", "u64x2", "u64x4"}

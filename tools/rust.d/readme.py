@@ -69,7 +69,7 @@ def used_by(found):
 def check_used(found):
     """Fails if an entry of a list matches nothing."""
     used, counts = used_by(found)
-    wanted = {*lists.LEFT_OUT_ITEMS, *lists.DROPPED_IMPORTS, *lists.DROPPED_NAMES, *lists.ADDED, *lists.UNDERSCORED, *lists.INLINED_AFTER_ALL, *range(len(lists.REPLACED))}
+    wanted = {*lists.CHECKED, *lists.LEFT_OUT_ITEMS, *lists.DROPPED_IMPORTS, *lists.DROPPED_NAMES, *lists.ADDED, *lists.UNDERSCORED, *lists.INLINED_AFTER_ALL, *range(len(lists.REPLACED))}
     wanted |= {(path, name) for path, owners in lists.WIPED.items() for name in owners}
     wanted |= {(path, name) for path, owners in lists.ENTRIES.items() for names in owners.values() for name in names}
     wanted |= set(lists.PROOFS_OF_MODEL) | set(lists.STD_ITEMS)
@@ -115,6 +115,8 @@ def tables(counts):
     rows = [("each file" if it.file == "*" else of_place((it.file, ""))[0], f"`{' '.join(it.old.split())}`", f"`{' '.join(it.new.split())}`", it.why) for it in lists.REPLACED]
     rows += [("each file", old, new, why) for old, new, why in lists.REWRITTEN]
     yield "Replaced:", table(("Where", "What", "By", "Why"), rows)
+    rows = [(f"`{place[1]}` of {of_place(place)[0]}", ", ".join(f"`{condition}`" for condition, _ in checks)) for place, checks in lists.CHECKED.items()]
+    yield "Checked by public functions of `rust/protocols`, which panic otherwise, since Rust doesn't verify what they require:", table(("Function", "Conditions"), rows)
     rows = [(f"`{path}`", why) for path, why in lists.BY_HAND.items()]
     yield "Written by hand, below `rust/protocols`:", table(("File", "Why"), rows)
     rows = [(of_place((it.file, ""))[0], in_one_line(it.old), in_one_line(it.new), it.why) for it in lists.SENTENCES]

@@ -294,7 +294,9 @@ impl<const W: usize> Connection<W> {
         self.one_rtt.forget_previous();
     }
 
-    /// Initiates a key update, and drops the receiver's key of the previous phase (RFC 9001 sections 6.1 and 6.5).
+    /// Initiates a key update, and drops the receiver's key of the previous phase (RFC 9001 sections 6.1 and 6.5). It keeps no
+    /// time: the caller lets three times the probe timeout pass after an update is acknowledged before it initiates the next
+    /// one, since late packets of the phase before would be rejected, and counted as failures (section 6.5).
     ///
     /// Fails with `HandshakeUnconfirmed` if the handshake is not confirmed or the keys of 1-RTT packets are not installed in
     /// both directions, and with `PhaseUnacknowledged` if there was an update and no packet of its phase is acknowledged yet.
@@ -338,6 +340,9 @@ impl<const W: usize> Connection<W> {
     /// Records that the peer has acknowledged the packet of a level with this number, as `Sender::acknowledged_in` does.
     /// `phase` is the Key Phase bit of the packet that brought the acknowledgment (`Received::phase`).
     ///
+    /// An ACK frame may name a range of 2^62 numbers. If the caller records the largest number first, a number that was never
+    /// sent fails before the caller walks the range. A number that was recorded before need not be recorded again.
+    ///
     /// Fails with `NoKeys` if the level has no sender, with `NeverSent` if the number was not sent, and with `UpdateUnanswered`
     /// if a packet of the current keys is acknowledged under older ones (RFC 9001 section 6.2). The connection is then
     /// unchanged, and has to be closed after the last two errors.
@@ -367,7 +372,8 @@ impl<const W: usize> Connection<W> {
 
     /// Sends a packet of a level, as `Sender::send` does, and returns its number and whether a key update followed it. The
     /// packet is the header, which ends with room for the number, the payload, and 16 bytes for the tag. The caller chooses its
-    /// fixed bit if the peer allows 0, and sets it to 1 otherwise (see `set_peer_fixed_bit`).
+    /// fixed bit if the peer allows 0, and sets it to 1 otherwise (see `set_peer_fixed_bit`). That the header's type is one of
+    /// the level is the caller's responsibility.
     ///
     /// After a 1-RTT packet, a key update is initiated, if `initiate_update` allows one, once the key may seal fewer than 2^16
     /// more packets, or fewer than half of a lower limit. The receiver's next key is set as well, since the packet may bring
@@ -422,7 +428,8 @@ impl<const W: usize> Connection<W> {
     ///
     /// `id_len` is the length in bytes of this endpoint's own connection IDs. `id` is the destination ID of the datagram's
     /// first packet, by which the caller found the connection: an ID of this endpoint or, at a server, the one that the client
-    /// chose for its first packets.
+    /// chose for its first packets. `packet_at` tells where it is, and the source ID and the token, which `Incoming` doesn't
+    /// have. Its caller also sees the Retry and Version Negotiation packets, which this call ignores.
     ///
     /// A packet with a long header of another version than the receiver's is dropped (`ReceiveError::OtherVersion`), and so is
     /// each packet for which `Receiver::receive` fails with an error that has no code, such as `Refused` or `Duplicate`.

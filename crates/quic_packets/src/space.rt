@@ -67,7 +67,7 @@ impl<const W: usize> Space<W> {
 
     /// Returns the ranges of the numbers that were received, among those that the window reaches, from the highest down: the
     /// ranges of an ACK frame (RFC 9000 section 19.3.1). Each is as long as it can be, so a number that was not received lies
-    /// between two of them.
+    /// between two of them. A range excludes its end: Largest Acknowledged is `end - 1` of the first.
     pub fn ranges(&self) -> Ranges<'_, W>
         ensures { result ≡ record { space = self.now; below = self.now.next } }
     {

@@ -50,14 +50,15 @@ pub enum Level {
 ///
 /// Each event of a connection has its call:
 ///
-/// - TLS gives a secret: `install_sender` or `install_receiver`.
+/// - TLS gives a secret: `install_sender` or `install_receiver`. A server installs the receiver of 1-RTT packets when the handshake
+///   is complete (RFC 9001 section 5.7). Until then, `receive` returns `NoKeys` for them.
 /// - The client sends its first Handshake packet, or the server receives it: `discard` of `Level::Initial` (RFC 9001 section
 ///   4.9.1).
 /// - The handshake is complete at the server, or HANDSHAKE_DONE arrives at the client: `confirm_handshake`, and `discard` of
 ///   `Level::Handshake` (sections 4.1.2 and 4.9.2).
 /// - There are frames to send: `send`.
 /// - A datagram arrives: `receive`, for each packet in it.
-/// - A packet has an ACK frame: `acknowledged`, for each number in it.
+/// - A packet has an ACK frame: `acknowledged`, for each number in it, the largest first.
 /// - `receive` tells a key update, and three times the probe timeout has passed: `forget_previous` (section 6.5).
 ///
 /// Both ends of a connection from the secrets of its 1-RTT packets on:
@@ -190,6 +191,10 @@ impl<const W: usize> Connection<W> {
     /// parameter `grease_quic_bit` (RFC 9287 section 3). The fixed bit of a packet that is sent must be 1 until
     /// `set_peer_fixed_bit` allows 0.
     ///
+    /// # Panics
+    ///
+    /// Panics if `W` isn't from 2 to 64.
+    ///
     /// <details><summary>Contract</summary>
     ///
     /// ```text
@@ -212,6 +217,8 @@ impl<const W: usize> Connection<W> {
     ///
     /// </details>
     pub fn new(fixed_bit: FixedBit) -> Self {
+        assert!((2..=64).contains(&W), "W isn't from 2 to 64");
+
         Connection {
             initial: Ends::new(),
             handshake: Ends::new(),
@@ -503,7 +510,9 @@ impl<const W: usize> Connection<W> {
         self.one_rtt.forget_previous();
     }
 
-    /// Initiates a key update, and drops the receiver's key of the previous phase (RFC 9001 sections 6.1 and 6.5).
+    /// Initiates a key update, and drops the receiver's key of the previous phase (RFC 9001 sections 6.1 and 6.5). It keeps no
+    /// time: the caller lets three times the probe timeout pass after an update is acknowledged before it initiates the next
+    /// one, since late packets of the phase before would be rejected, and counted as failures (section 6.5).
     ///
     /// Fails with `HandshakeUnconfirmed` if the handshake is not confirmed or the keys of 1-RTT packets are not installed in
     /// both directions, and with `PhaseUnacknowledged` if there was an update and no packet of its phase is acknowledged yet.
@@ -565,6 +574,9 @@ impl<const W: usize> Connection<W> {
     /// Records that the peer has acknowledged the packet of a level with this number, as `Sender::acknowledged_in` does.
     /// `phase` is the Key Phase bit of the packet that brought the acknowledgment (`Received::phase`).
     ///
+    /// An ACK frame may name a range of 2^62 numbers. If the caller records the largest number first, a number that was never
+    /// sent fails before the caller walks the range. A number that was recorded before need not be recorded again.
+    ///
     /// Fails with `NoKeys` if the level has no sender, with `NeverSent` if the number was not sent, and with `UpdateUnanswered`
     /// if a packet of the current keys is acknowledged under older ones (RFC 9001 section 6.2). The connection is then
     /// unchanged, and has to be closed after the last two errors.
@@ -604,7 +616,8 @@ impl<const W: usize> Connection<W> {
 
     /// Sends a packet of a level, as `Sender::send` does, and returns its number and whether a key update followed it. The
     /// packet is the header, which ends with room for the number, the payload, and 16 bytes for the tag. The caller chooses its
-    /// fixed bit if the peer allows 0, and sets it to 1 otherwise (see `set_peer_fixed_bit`).
+    /// fixed bit if the peer allows 0, and sets it to 1 otherwise (see `set_peer_fixed_bit`). That the header's type is one of
+    /// the level is the caller's responsibility.
     ///
     /// After a 1-RTT packet, a key update is initiated, if `initiate_update` allows one, once the key may seal fewer than 2^16
     /// more packets, or fewer than half of a lower limit. The receiver's next key is set as well, since the packet may bring
@@ -679,7 +692,8 @@ impl<const W: usize> Connection<W> {
     ///
     /// `id_len` is the length in bytes of this endpoint's own connection IDs. `id` is the destination ID of the datagram's
     /// first packet, by which the caller found the connection: an ID of this endpoint or, at a server, the one that the client
-    /// chose for its first packets.
+    /// chose for its first packets. `packet_at` tells where it is, and the source ID and the token, which `Incoming` doesn't
+    /// have. Its caller also sees the Retry and Version Negotiation packets, which this call ignores.
     ///
     /// A packet with a long header of another version than the receiver's is dropped (`ReceiveError::OtherVersion`), and so is
     /// each packet for which `Receiver::receive` fails with an error that has no code, such as `Refused` or `Duplicate`.

@@ -53,7 +53,7 @@ pub struct LongHeader<'a> {
 pub struct ShortHeader<'a> {
     /// The destination connection ID, of at most 20 bytes.
     pub destination_id: &'a [u8],
-    /// The Key Phase bit.
+    /// The Key Phase bit. `Sender::send` and `Connection::send` overwrite it with the phase of their key.
     pub phase: bool,
     /// The number of bytes of the packet number, from 1 to 4.
     pub number_len: usize,
@@ -92,6 +92,9 @@ impl LongHeader<'_> {
     /// payload and 16 bytes for the tag follow the number. The fixed bit is 1, and the reserved bits are 0. The token's length
     /// has the fewest bytes, and Length has two, or four from 16,384 on. No other byte of the buffer changes, so the number
     /// isn't written yet.
+    ///
+    /// To fill a datagram, write the header for a payload of 0 bytes, and again for as many bytes as are left after the number
+    /// and the tag: the header is as long for any payload that makes a Length below 16,384.
     ///
     /// Fails, in this order, with `NumberLength` if `number_len` is 0 or above 4; with `IdTooLong` if a connection ID has more
     /// than 20 bytes; with `TooLong` if the token, or number, payload and tag together, have 2^30 bytes or more; and with

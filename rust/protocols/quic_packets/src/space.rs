@@ -31,6 +31,10 @@ pub struct Space<const W: usize> {
 impl<const W: usize> Space<W> {
     /// Creates a space in which no number was received.
     ///
+    /// # Panics
+    ///
+    /// Panics if `W` isn't from 2 to 64.
+    ///
     /// <details><summary>Contract</summary>
     ///
     /// ```text
@@ -43,6 +47,8 @@ impl<const W: usize> Space<W> {
     ///
     /// </details>
     pub fn new() -> Self {
+        assert!((2..=64).contains(&W), "W isn't from 2 to 64");
+
         Space {
             next: 0,
             seen: [0; W],
@@ -85,7 +91,7 @@ impl<const W: usize> Space<W> {
 
     /// Returns the ranges of the numbers that were received, among those that the window reaches, from the highest down: the
     /// ranges of an ACK frame (RFC 9000 section 19.3.1). Each is as long as it can be, so a number that was not received lies
-    /// between two of them.
+    /// between two of them. A range excludes its end: Largest Acknowledged is `end - 1` of the first.
     ///
     /// <details><summary>Contract</summary>
     ///

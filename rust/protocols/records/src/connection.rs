@@ -66,15 +66,20 @@ pub struct Parts {
 ///
 /// Each event of a connection calls for one call:
 ///
-/// - The handshake has ended: `new`, with the first application traffic secret of each direction.
+/// - The handshake has ended: `new`, with the first application traffic secret of each direction. `Secret` is a type of
+///   `deerlapse-key-derivation`, and `Stage` one of `deerlapse`. A handshake message of the peer that is longer than the buffer,
+///   with its header of four bytes, ends the connection: `receive` fails with `MessageError::TooLong`.
 /// - Bytes have arrived: `receive`. The caller drops the bytes of the records that it took, and keeps the others until more arrive.
-/// - There is data to send: `send`. If the peer has asked for a KeyUpdate, the answer goes before the data.
+/// - There is data to send: `send`. If the peer has asked for a KeyUpdate, the answer goes before the data. No call sends the answer
+///   alone: `send` of no data sends it and an empty record.
 /// - The keys are to change: `send_key_update`.
 /// - There is nothing more to send: `close`. The peer's data is received until its close_notify, after which `is_ended` is true.
 /// - `receive` has failed: `abort` with the error's alert. `Alert` and `Ended` have none, and nothing is sent after them.
 /// - The stream has ended, and `is_ended` is false: an attacker may have cut it (RFC 8446 section 6.1). What came is not all.
 ///
 /// A call that sends and fails has written nothing. After `OutOfMemory` it may be made again, and after `KeyUsedUp` with less content.
+/// `receive` fails with `OutOfMemory` if what it appends to needs to grow and there is no memory. Application data needs none if
+/// `application_data` has room for as many bytes as have arrived.
 ///
 /// ```
 /// # use key_derivation as deerlapse_key_derivation;
@@ -197,6 +202,12 @@ impl<'b> Connection<'b> {
     ///
     /// The limit of the writer bounds the records under each key, and its size limit, and that of the reader, the records.
     ///
+    /// # Panics
+    ///
+    /// Panics if `reader` has no secret, which `Reader::from_secret` gives it, if `writer` has no secret, which
+    /// `Writer::from_secret` gives it, if the size limit of `writer` is below `MIN_SIZE_LIMIT`, or if `buffer` has fewer than 4
+    /// bytes.
+    ///
     /// <details><summary>Contract</summary>
     ///
     /// ```text
@@ -211,6 +222,20 @@ impl<'b> Connection<'b> {
     ///
     /// </details>
     pub fn new(reader: Reader, writer: Writer, buffer: &'b mut [u8], stage: Stage) -> Self {
+        assert!(
+            reader.has_secret(),
+            "reader has no secret, which Reader::from_secret gives it"
+        );
+        assert!(
+            writer.has_secret(),
+            "writer has no secret, which Writer::from_secret gives it"
+        );
+        assert!(
+            crate::MIN_SIZE_LIMIT <= writer.size_limit(),
+            "the size limit of writer is below MIN_SIZE_LIMIT"
+        );
+        assert!(4 <= buffer.len(), "buffer has fewer than 4 bytes");
+
         Connection {
             incoming: Incoming {
                 reader,

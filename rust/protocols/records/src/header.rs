@@ -12,6 +12,10 @@ pub(crate) const APPLICATION_DATA: u8 = 23;
 
 /// Returns the header of a protected record with `len` bytes after it. It is the AAD of these bytes (RFC 8446 section 5.2).
 ///
+/// # Panics
+///
+/// Panics if `len` is 65,536 or more.
+///
 /// <details><summary>Contract</summary>
 ///
 /// ```text
@@ -23,6 +27,8 @@ pub(crate) const APPLICATION_DATA: u8 = 23;
 ///
 /// </details>
 pub fn header_of(len: usize) -> [u8; HEADER_LEN] {
+    assert!(len < 65536, "len is 65,536 or more");
+
     let [high, low] = (len as u16).to_be_bytes();
     [APPLICATION_DATA, 3, 3, high, low]
 }

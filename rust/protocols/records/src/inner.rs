@@ -31,6 +31,10 @@ pub(crate) fn inner_len(
 /// Writes the value of a content type and zeros after a content, which is the first `content_len` bytes of `inner`. `inner` is
 /// then the inner plaintext of that content and type, with the zeros as padding (RFC 8446 section 5.4).
 ///
+/// # Panics
+///
+/// Panics if `inner` has no byte after the content.
+///
 /// <details><summary>Contract</summary>
 ///
 /// ```text
@@ -43,6 +47,11 @@ pub(crate) fn inner_len(
 ///
 /// </details>
 pub fn write_type_and_padding(inner: &mut [u8], content_type: u8, content_len: usize) {
+    assert!(
+        content_len < inner.len(),
+        "inner has no byte after the content"
+    );
+
     inner[content_len] = content_type;
     inner[content_len + 1..].fill(0);
 }

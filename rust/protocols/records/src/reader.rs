@@ -86,6 +86,11 @@ pub struct Reader {
 }
 
 impl Reader {
+    /// Returns whether the key was derived from a traffic secret.
+    pub(crate) fn has_secret(&self) -> bool {
+        self.secret.is_some()
+    }
+
     /// Creates a reader from a traffic secret, from which the key and the IV are derived, and those after each `update` (RFC 8446
     /// sections 7.2 and 7.3). Its next record is record 0, with the limit of `new`.
     ///
@@ -337,6 +342,10 @@ impl Reader {
     /// it leaves every byte unchanged. After `NoContentType`, `UnexpectedType`, `EmptyContent` and `AlertLength`, its inner
     /// plaintext begins at `filled`.
     ///
+    /// # Panics
+    ///
+    /// Panics if `at` and `end` aren't a range of `bytes`, or if `filled` is beyond the header at `at`.
+    ///
     /// <details><summary>Contract</summary>
     ///
     /// ```text
@@ -365,6 +374,15 @@ impl Reader {
         at: usize,
         end: usize,
     ) -> Result<(ContentType, usize), RecordError> {
+        assert!(
+            at <= end && end <= bytes.len(),
+            "at and end aren't a range of bytes"
+        );
+        assert!(
+            filled <= at + crate::HEADER_LEN,
+            "filled is beyond the header at at"
+        );
+
         if let Some(error) = self.refusal() {
             return Err(error);
         }

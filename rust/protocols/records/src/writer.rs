@@ -70,6 +70,11 @@ pub struct Writer {
 }
 
 impl Writer {
+    /// Returns whether the key was derived from a traffic secret.
+    pub(crate) fn has_secret(&self) -> bool {
+        self.secret.is_some()
+    }
+
     /// Creates a writer from a traffic secret, from which the key and the IV are derived, and those after each `update` (RFC 8446
     /// sections 7.2 and 7.3). Its next record is record 0, with the limit of `new`.
     ///

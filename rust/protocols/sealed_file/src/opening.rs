@@ -25,6 +25,9 @@ use std::mem;
 /// Opens a file of two chunks, and then the same file without its last byte. By the time the last chunk is refused, the message of the
 /// first has been written. So a program that opens a file into another keeps the other only if the call succeeds.
 ///
+/// `open` reads the input to its end. Where more follows the sealed file, the caller cuts it off, as by `Read::take`. Of a file that is
+/// sealed under a passphrase, `iterations_in` tells what `open_with_passphrase` will cost, before it derives the key.
+///
 /// ```
 /// use deerlapse_file::{CHUNK_LEN, FileError, FileKey, FileRandom, open, seal};
 /// use std::fs::File;
@@ -83,6 +86,10 @@ pub fn open<R: Read, W: Write>(
 /// Like `open`, for a file that is bound to `aad`, at most `MAX_AAD_LEN` bytes. With other bytes than it was sealed with, the
 /// first chunk is refused.
 ///
+/// # Panics
+///
+/// Panics if `aad` has more than `MAX_AAD_LEN` bytes.
+///
 /// <details><summary>Contract</summary>
 ///
 /// ```text
@@ -113,6 +120,11 @@ pub fn open_with_aad<R: Read, W: Write>(
     input: &mut R,
     output: &mut W,
 ) -> Result<(), FileError> {
+    assert!(
+        aad.len() <= crate::MAX_AAD_LEN,
+        "aad has more than MAX_AAD_LEN bytes"
+    );
+
     open_version(VERSION, key, aad, input, output)
 }
 

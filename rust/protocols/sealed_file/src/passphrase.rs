@@ -57,6 +57,10 @@ fn concatenated(first: &[u8], second: &[u8]) -> io::Result<Vec<u8>> {
 ///
 /// Fails with the errors of `seal`. What was written by then is the beginning of the sealed file.
 ///
+/// # Panics
+///
+/// Panics if `iterations` is 0 or more than `MAX_ITERATIONS`, or if `aad` has more than `MAX_AAD_LEN` bytes.
+///
 /// <details><summary>Contract</summary>
 ///
 /// ```text
@@ -90,6 +94,15 @@ pub fn seal_with_passphrase<R: Read, W: Write>(
     input: &mut R,
     output: &mut W,
 ) -> Result<(), FileError> {
+    assert!(
+        (1..=MAX_ITERATIONS).contains(&iterations),
+        "iterations is 0 or more than MAX_ITERATIONS"
+    );
+    assert!(
+        aad.len() <= crate::MAX_AAD_LEN,
+        "aad has more than MAX_AAD_LEN bytes"
+    );
+
     let bytes = iterations.to_be_bytes();
     let aad = concatenated(&bytes, aad)?;
     let key = passphrase_key(passphrase, random.as_bytes(), iterations);
@@ -167,6 +180,10 @@ fn derive_key_and_aad(
 /// passphrase. Fails with `Iterations` if a whole header of version 3 has 0 iterations or more than `MAX_ITERATIONS`, before it
 /// derives the key and writes anything.
 ///
+/// # Panics
+///
+/// Panics if `aad` has more than `MAX_AAD_LEN` bytes.
+///
 /// <details><summary>Contract</summary>
 ///
 /// ```text
@@ -199,6 +216,11 @@ pub fn open_with_passphrase<R: Read, W: Write>(
     input: &mut R,
     output: &mut W,
 ) -> Result<(), FileError> {
+    assert!(
+        aad.len() <= crate::MAX_AAD_LEN,
+        "aad has more than MAX_AAD_LEN bytes"
+    );
+
     let mut header = Vec::new();
     read_piece(input, PASSPHRASE_HEADER_LEN, &mut header)?;
     let iterations = iterations_in(&header)?;

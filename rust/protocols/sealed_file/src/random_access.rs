@@ -47,6 +47,10 @@ fn append_chunk_at(
 /// Fails with the errors of `open` for the header and for this chunk, except `Io`, and with `OutOfMemory` only if `out` has no
 /// room for the message and cannot grow. `out` then holds the bytes that it held before.
 ///
+/// # Panics
+///
+/// Panics if `aad` has more than `MAX_AAD_LEN` bytes, or if `sealed` has more than `SEALED_CHUNK_LEN` bytes.
+///
 /// # Examples
 ///
 /// Opens the second chunk of a file, which is also the last. Under another number it is refused.
@@ -113,6 +117,15 @@ pub fn open_chunk_at(
     sealed: &[u8],
     out: &mut Vec<u8>,
 ) -> Result<(), FileError> {
+    assert!(
+        aad.len() <= crate::MAX_AAD_LEN,
+        "aad has more than MAX_AAD_LEN bytes"
+    );
+    assert!(
+        sealed.len() <= crate::SEALED_CHUNK_LEN,
+        "sealed has more than SEALED_CHUNK_LEN bytes"
+    );
+
     let len = out.len();
     let opened = append_chunk_at(key, aad, header, number, is_last, sealed, out);
     if opened.is_err() {

@@ -26,6 +26,9 @@ struct Layout {
 ///
 /// # Examples
 ///
+/// A file that is sealed under a passphrase isn't read so: `new` fails with `AnotherVersion(3)`. To read parts of such a file, seal it
+/// under a `FileKey` that is drawn at random, and seal the bytes of that key by `seal_with_passphrase`.
+///
 /// Reads a part of a sealed file that begins at byte 6 of the input. No read goes beyond the end of a chunk, so the loop makes two.
 ///
 /// ```
@@ -297,6 +300,10 @@ impl<R: ReadAt> SealedReader<R> {
     /// Fails with the errors of `open` for the header, with `TooLong` or `EndsEarly` if no sealed file has this length, with the
     /// errors of `open` for the last chunk, with `Io` if reading fails, and with `OutOfMemory` if memory cannot be allocated.
     ///
+    /// # Panics
+    ///
+    /// Panics if `aad` has more than `MAX_AAD_LEN` bytes.
+    ///
     /// <details><summary>Contract</summary>
     ///
     /// ```text
@@ -335,12 +342,21 @@ impl<R: ReadAt> SealedReader<R> {
         input: R,
         start: u64,
     ) -> Result<SealedReader<R>, FileError> {
+        assert!(
+            aad.len() <= crate::MAX_AAD_LEN,
+            "aad has more than MAX_AAD_LEN bytes"
+        );
+
         let buffer = try_with_capacity(SEALED_CHUNK_LEN)?;
         SealedReader::with_buffer(key, aad, input, start, buffer)
     }
 
     /// Like `new`, but the reader works in `buffer`, whose bytes it overwrites. It allocates nothing if the capacity of
     /// `buffer` is at least `SEALED_CHUNK_LEN`, and fails with `OutOfMemory` only if it is less and cannot grow.
+    ///
+    /// # Panics
+    ///
+    /// Panics if `aad` has more than `MAX_AAD_LEN` bytes.
     ///
     /// <details><summary>Contract</summary>
     ///
@@ -383,6 +399,11 @@ impl<R: ReadAt> SealedReader<R> {
         start: u64,
         mut buffer: Vec<u8>,
     ) -> Result<SealedReader<R>, FileError> {
+        assert!(
+            aad.len() <= crate::MAX_AAD_LEN,
+            "aad has more than MAX_AAD_LEN bytes"
+        );
+
         let cipher = read_chunk_cipher(&mut input, start, key, aad)?;
         let layout = layout_of(&mut input, start)?;
         buffer.try_resize(SEALED_CHUNK_LEN, 0)?;

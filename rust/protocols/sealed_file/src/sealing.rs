@@ -74,6 +74,10 @@ pub fn seal<R: Read, W: Write>(
 /// Like `seal`, but binds the file to `aad`, at most `MAX_AAD_LEN` bytes: it opens only with the same bytes, which are not in it.
 /// Without any, the sealed file is that of `seal`.
 ///
+/// # Panics
+///
+/// Panics if `aad` has more than `MAX_AAD_LEN` bytes.
+///
 /// <details><summary>Contract</summary>
 ///
 /// ```text
@@ -103,6 +107,11 @@ pub fn seal_with_aad<R: Read, W: Write>(
     input: &mut R,
     output: &mut W,
 ) -> Result<(), FileError> {
+    assert!(
+        aad.len() <= crate::MAX_AAD_LEN,
+        "aad has more than MAX_AAD_LEN bytes"
+    );
+
     let cipher = ChunkCipher::new(VERSION, key, aad, &random);
     seal_under(cipher.header(), &cipher, input, output)
 }

@@ -9,7 +9,8 @@ use crate::receiver::Received;
 /// The step past one packet of a datagram: what became of the packet, and where the next one begins.
 #[derive(Clone, PartialEq, Eq, Debug)]
 pub struct Step {
-    /// The position after the packet, where the next one begins. It is the length of the datagram if there is none.
+    /// The position after the packet, where the next one begins. It is the length of the datagram if there is none. If the
+    /// packet began within the datagram, its end is above its beginning, so a loop over the packets of a datagram ends.
     pub next: usize,
     /// What became of the packet.
     pub incoming: Incoming,

@@ -115,6 +115,10 @@ impl Reader {
     /// Fails with `TooMuchEarlyData` if the record counts as more than `early_data.remaining()` bytes, and in any other case as
     /// `gather` does.
     ///
+    /// # Panics
+    ///
+    /// Panics if `at` and `end` aren't a range of `bytes`, or if `filled` is beyond the header at `at`.
+    ///
     /// <details><summary>Contract</summary>
     ///
     /// ```text
@@ -143,6 +147,15 @@ impl Reader {
         at: usize,
         end: usize,
     ) -> Result<Option<(ContentType, usize)>, RecordError> {
+        assert!(
+            at <= end && end <= bytes.len(),
+            "at and end aren't a range of bytes"
+        );
+        assert!(
+            filled <= at + crate::HEADER_LEN,
+            "filled is beyond the header at at"
+        );
+
         let error = match self.gather(bytes, filled, at, end) {
             Ok(read) => {
                 early_data.is_over = true;
