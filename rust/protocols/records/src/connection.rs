@@ -78,6 +78,7 @@ pub struct Parts {
 /// - The stream has ended, and `is_ended` is false: an attacker may have cut it (RFC 8446 section 6.1). What came is not all.
 ///
 /// A call that sends and fails has written nothing. After `OutOfMemory` it may be made again, and after `KeyUsedUp` with less content.
+/// `Ended` comes after `close` and `abort`. The other errors are of what the caller passed.
 /// `receive` fails with `OutOfMemory` if what it appends to needs to grow and there is no memory. Application data needs none if
 /// `application_data` has room for as many bytes as have arrived.
 ///

@@ -98,6 +98,16 @@ fn contents(reader: &mut Reader, bytes: &mut [u8]) -> Result<Vec<u8>, Box<dyn Er
     Ok(bytes[..filled].to_vec())
 }
 
+/// Seals the content of a case in a slice with so many bytes after the records, and returns these and the next number.
+fn sealed(case: &Case, wanted: &[u8], spare: usize) -> Result<(Vec<u8>, u64), Box<dyn Error>> {
+    let mut writer = case.writer()?;
+    let mut out = vec![9; wanted.len() + spare];
+    let len = writer.seal_content(case.content_type, &case.content, case.padding, &mut out)?;
+    assert_eq!(len, wanted.len());
+    assert_eq!(out.split_off(len), vec![9; spare]);
+    Ok((out, writer.number()))
+}
+
 #[test]
 fn records_are_those_of_the_model() -> Result<(), Box<dyn Error>> {
     let drawn = &mut Drawn::new(7);
@@ -115,20 +125,14 @@ fn records_are_those_of_the_model() -> Result<(), Box<dyn Error>> {
         )?;
         assert_eq!(appended, [&before[..], &wanted].concat());
 
-        let mut sealed = vec![9; wanted.len() + 2];
-        let len = case.writer()?.seal_content(
-            case.content_type,
-            &case.content,
-            case.padding,
-            &mut sealed,
-        )?;
-        assert_eq!(len, wanted.len());
-        assert_eq!(sealed, [&wanted[..], &[9; 2]].concat());
-
-        let mut reader = Reader::new(case.algorithm, &case.key, case.iv)?;
-        reader.set_size_limit(case.size_limit)?;
-        assert_eq!(contents(&mut reader, &mut sealed[..len])?, case.content);
-        assert_eq!(reader.number(), writer.number());
+        for spare in [0, 2] {
+            let (mut records, number) = sealed(&case, &wanted, spare)?;
+            assert_eq!((&records, number), (&wanted, writer.number()));
+            let mut reader = Reader::new(case.algorithm, &case.key, case.iv)?;
+            reader.set_size_limit(case.size_limit)?;
+            assert_eq!(contents(&mut reader, &mut records)?, case.content);
+            assert_eq!(reader.number(), number);
+        }
     }
     Ok(())
 }

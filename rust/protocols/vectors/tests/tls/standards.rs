@@ -60,44 +60,57 @@ fn rfc_8448_3() -> Vec<Vector> {
         .collect()
 }
 
+/// Seals and opens a record in a buffer with so many bytes after it.
+fn in_place(key: &RecordKey, it: &Vector, spare: usize) {
+    let (len, record_len) = (it.content.len(), it.record.len());
+    let mut bytes = vec![9; record_len + spare];
+    bytes[HEADER_LEN..HEADER_LEN + len].copy_from_slice(&it.content);
+    let sealed = key.seal_at(it.number, it.content_type, &mut bytes, len, 0);
+    assert_eq!(sealed, Ok(record_len));
+    assert_eq!(bytes, [&it.record[..], &vec![9; spare]].concat());
+    let opened = key.open_at(it.number, &mut bytes[..record_len]);
+    assert_eq!(opened, Ok((it.content_type, len)));
+    assert_eq!(bytes[HEADER_LEN..HEADER_LEN + len], it.content);
+}
+
+/// The same without a header.
+fn as_payload(key: &RecordKey, it: &Vector, spare: usize) {
+    let (len, payload_len) = (it.content.len(), it.record.len() - HEADER_LEN);
+    let mut payload = [&it.content[..], &vec![9; 17 + spare]].concat();
+    let sealed = key.seal_payload(it.number, it.content_type, &mut payload, len, 0);
+    assert_eq!(sealed, Ok(payload_len));
+    let wanted = [&it.record[HEADER_LEN..], &vec![9; spare]].concat();
+    assert_eq!(payload, wanted);
+    let opened = key.open_payload(it.number, &mut payload[..payload_len]);
+    assert_eq!(opened, Ok((it.content_type, len)));
+    assert_eq!(payload[..len], it.content);
+}
+
+/// The same from one buffer to another.
+fn to_another(key: &RecordKey, it: &Vector, spare: usize) {
+    let (len, record_len) = (it.content.len(), it.record.len());
+    let mut record = vec![9; record_len + spare];
+    let sealed = key.seal_to(it.number, it.content_type, &it.content, 0, &mut record);
+    assert_eq!(sealed, Ok(record_len));
+    assert_eq!(record, [&it.record[..], &vec![9; spare]].concat());
+    let mut content = vec![9; len + 1 + spare];
+    let opened = key.open_to(it.number, &it.record, &mut content);
+    assert_eq!(opened, Ok((it.content_type, len)));
+    let inner = [&it.content[..], &[it.content_type.code()]].concat();
+    assert_eq!(content, [&inner[..], &vec![9; spare]].concat());
+}
+
 #[test]
 fn rfc_8448_3_by_number() -> Result<(), Box<dyn Error>> {
     let vectors = rfc_8448_3();
     assert_eq!(vectors.len(), 6);
     for it in vectors {
         let key = RecordKey::new(&AES_128_GCM, &it.key, it.iv)?;
-        let (len, record_len) = (it.content.len(), it.record.len());
-        let mut bytes = vec![9; record_len + 3];
-        bytes[HEADER_LEN..HEADER_LEN + len].copy_from_slice(&it.content);
-        assert_eq!(
-            key.seal_at(it.number, it.content_type, &mut bytes, len, 0),
-            Ok(record_len)
-        );
-        assert_eq!(bytes, [&it.record[..], &[9; 3]].concat());
-        assert_eq!(
-            key.open_at(it.number, &mut bytes[..record_len]),
-            Ok((it.content_type, len))
-        );
-        assert_eq!(bytes[HEADER_LEN..HEADER_LEN + len], it.content);
-
-        let mut payload = [&it.content[..], &[9; 17]].concat();
-        key.seal_payload(it.number, it.content_type, &mut payload, len, 0)?;
-        assert_eq!(payload, it.record[HEADER_LEN..]);
-        assert_eq!(
-            key.open_payload(it.number, &mut payload),
-            Ok((it.content_type, len))
-        );
-        assert_eq!(payload[..len], it.content);
-
-        let mut sealed = vec![9; record_len];
-        key.seal_to(it.number, it.content_type, &it.content, 0, &mut sealed)?;
-        assert_eq!(sealed, it.record);
-        let mut opened = vec![9; len + 1];
-        assert_eq!(
-            key.open_to(it.number, &it.record, &mut opened),
-            Ok((it.content_type, len))
-        );
-        assert_eq!(opened[..len], it.content);
+        for spare in [0, 3] {
+            in_place(&key, &it, spare);
+            as_payload(&key, &it, spare);
+            to_another(&key, &it, spare);
+        }
     }
     Ok(())
 }
