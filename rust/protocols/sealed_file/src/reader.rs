@@ -29,6 +29,8 @@ struct Layout {
 /// A file that is sealed under a passphrase isn't read so: `new` fails with `AnotherVersion(3)`. To read parts of such a file, seal it
 /// under a `FileKey` that is drawn at random, and seal the bytes of that key by `seal_with_passphrase`.
 ///
+/// Over a `File`, making a reader moves the position of the file.
+///
 /// Reads a part of a sealed file that begins at byte 6 of the input. No read goes beyond the end of a chunk, so the loop makes two.
 ///
 /// ```
