@@ -35,7 +35,6 @@ def with_example(lines, at, example):
     indent = lines[start][: -len(lines[start].lstrip())]
     comment = [line.strip() for line in lines[start:at]]
     comment = comment[: comment.index("/// # Examples")] if "/// # Examples" in comment else [*comment, "///"]
-    assert not any(line.startswith("/// # ") for line in comment[1:]), comment[0]
     added = ["# Examples", "", *example.rstrip("\n").split("\n")]
     comment += [f"/// {line}".rstrip() for line in added]
     return [*lines[:start], *(indent + line for line in comment), *lines[at:]]

@@ -298,6 +298,7 @@ REWRITTEN = [
     ("`X.push(..)`, and `reserve`, `extend_from_slice`, `resize`", "`X.try_push(..)`, and `try_grow`, `try_extend_from_slice`, `try_resize`", "A `Vec` of Rattle returns an error where there is no memory. Rust's ends the program, so these calls of `deerlapse::memory` reserve it first."),
     ("`std::alloc::AllocError`, `AllocFailed`", "`deerlapse::memory::AllocError`, `AllocFailed`", "Rust has none that are stable."),
     ("`std::`", "`core::`", "The packages need no operating system. `std::simd` is the package `simd`."),
+    ("`Fails ..` in a doc comment of `rust/protocols`", "the same under the heading *Errors*", "It is the form of Rust's documentation."),
     ("`X.as_array::<N>()`", "`simd::array_of::<_, N>(X)`", "Rust 1.85 doesn't have `as_array`, nor `as_mut_array`."),
     ("`X.shuffle(Y, [..])`", "`X.shuffle(Y, const { simd::Places::new([..]) })`", "The compiler computes the places once."),
     ("`#[error(..)]`", "an `impl` of `Display` and of `Error`", "The packages don't depend on `thiserror`."),

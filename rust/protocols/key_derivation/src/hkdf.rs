@@ -33,6 +33,8 @@ pub fn extract<H: Hash>(salt: &[u8], ikm: &[u8]) -> H::Output {
 
 /// HKDF-Expand (RFC 5869 section 2.3): fills `out` with the output keying material of a pseudorandom key.
 ///
+/// # Errors
+///
 /// Fails with `TooLong` if `out` is longer than 255 digests. It is then unchanged.
 ///
 /// <details><summary>Contract</summary>
@@ -77,6 +79,8 @@ impl<H: Hash> Expander<H> {
 
     /// HKDF-Expand (RFC 5869 section 2.3): fills `out` with output keying material. The pieces of `info`, one after another,
     /// are the info.
+    ///
+    /// # Errors
     ///
     /// Fails with `TooLong` if `out` is longer than 255 digests. It is then unchanged.
     ///
@@ -189,6 +193,8 @@ fn update_all<H: Hash>(mut hasher: H, pieces: &[&[u8]]) -> H {
 
 /// HKDF-Expand-Label (RFC 8446 section 7.1): fills `out` from a secret. `label` is without its prefix `tls13 `.
 ///
+/// # Errors
+///
 /// Fails with `LabelLength` if `label` is empty or has more than 249 bytes; with `ContextLength` if `context` has more than
 /// 255; and with `TooLong` if `out` is longer than 255 digests. `out` is then unchanged.
 ///
@@ -229,6 +235,8 @@ pub fn expand_label<H: Hash>(
 /// Derive-Secret (RFC 8446 section 7.1): returns a secret as long as a digest. `label` is without its prefix `tls13 `.
 ///
 /// `transcript_hash` is the Transcript-Hash of the messages (section 4.4.1), for no messages the digest of no bytes.
+///
+/// # Errors
 ///
 /// Fails with `LabelLength` if `label` is empty or has more than 249 bytes, and with `TranscriptHashLength` if
 /// `transcript_hash` is not as long as a digest.

@@ -13,6 +13,8 @@ const MAX_BLOCKS: usize = u32::MAX as usize;
 /// An iteration takes two compressions of the hash function. SHA instructions of a processor, which this crate doesn't use, make
 /// them three to five times as fast for an attacker, so `count` alone doesn't say what a guess costs.
 ///
+/// # Errors
+///
 /// Fails with `NoIterations` if `count` is 0, and otherwise with `TooLong` if `out` is longer than 2^32 - 1 digests. `out` is
 /// then unchanged.
 ///

@@ -203,6 +203,8 @@ impl QuicSecret {
     /// Creates the secret of the Initial packets that a client sends, from the Destination Connection ID of its first one
     /// (RFC 9001 section 5.2).
     ///
+    /// # Errors
+    ///
     /// Fails with `ConnectionIdLength` if `id` has more than 20 bytes.
     ///
     /// <details><summary>Contract</summary>
@@ -222,6 +224,8 @@ impl QuicSecret {
 
     /// Creates the secret of the Initial packets that a server sends, from the Destination Connection ID of the client's
     /// first Initial packet (RFC 9001 section 5.2).
+    ///
+    /// # Errors
     ///
     /// Fails with `ConnectionIdLength` if `id` has more than 20 bytes.
     ///

@@ -60,6 +60,8 @@ impl fmt::Debug for Secret {
 impl Secret {
     /// Creates a secret of a suite from its 32 or 48 bytes.
     ///
+    /// # Errors
+    ///
     /// Fails with `SecretLength` if `bytes` is not as long as a digest of the suite's hash function.
     ///
     /// <details><summary>Contract</summary>
@@ -148,6 +150,8 @@ impl Secret {
 
     /// HKDF-Expand with the suite's hash function and the secret as the pseudorandom key (RFC 5869 section 2.3): fills `out`.
     ///
+    /// # Errors
+    ///
     /// Fails with `TooLong` if `out` is longer than 255 secrets. It is then unchanged.
     ///
     /// <details><summary>Contract</summary>
@@ -173,6 +177,8 @@ impl Secret {
 
     /// HKDF-Expand-Label with the suite's hash function (RFC 8446 section 7.1): fills `out`. `label` is without its prefix
     /// `tls13 `.
+    ///
+    /// # Errors
     ///
     /// Fails as `hkdf::expand_label` does. `out` is then unchanged.
     ///

@@ -355,6 +355,8 @@ impl<const W: usize> Connection<W> {
     /// becomes that of 1-RTT packets (RFC 9000 section 12.3), and its sender of Initial packets gets the keys of the connection
     /// ID that a Retry packet brings (section 17.2.5.3). The sender's version becomes that of the secret.
     ///
+    /// # Errors
+    ///
     /// Fails with `Discarded` if the keys of the level were discarded. The connection is then unchanged.
     ///
     /// <details><summary>Contract</summary>
@@ -381,6 +383,8 @@ impl<const W: usize> Connection<W> {
     /// Installs the keys that open the packets of a level, in place of those that it has. The numbers received stay. For 1-RTT
     /// packets the key after the next key update is set too, so that the peer may update once the handshake is confirmed (RFC
     /// 9001 section 6.1).
+    ///
+    /// # Errors
     ///
     /// Fails with `Discarded` if the keys of the level were discarded. The connection is then unchanged.
     ///
@@ -414,6 +418,8 @@ impl<const W: usize> Connection<W> {
     }
 
     /// Installs the keys that open 0-RTT packets, which share the space of 1-RTT packets.
+    ///
+    /// # Errors
     ///
     /// Fails with `Discarded` after `discard_zero_rtt`. The connection is then unchanged.
     ///
@@ -514,6 +520,8 @@ impl<const W: usize> Connection<W> {
     /// time: the caller lets three times the probe timeout pass after an update is acknowledged before it initiates the next
     /// one, since late packets of the phase before would be rejected, and counted as failures (section 6.5).
     ///
+    /// # Errors
+    ///
     /// Fails with `HandshakeUnconfirmed` if the handshake is not confirmed or the keys of 1-RTT packets are not installed in
     /// both directions, and with `PhaseUnacknowledged` if there was an update and no packet of its phase is acknowledged yet.
     /// The connection is then unchanged.
@@ -541,6 +549,8 @@ impl<const W: usize> Connection<W> {
     /// Leaves the numbers of a level below `number` unused, as `Sender::skip_to` does, so that `number` is that of its next
     /// packet. A peer that acknowledges one of them has not received it (RFC 9000 section 21.4), and `acknowledged` rejects that
     /// while the number is in one of the eight highest ranges of skipped numbers.
+    ///
+    /// # Errors
     ///
     /// Fails with `NoKeys` if the level has no sender, with `NumberUsed` if its next number is already above `number`, and with
     /// `NumbersEnded` if `number` is above 2^62. The connection is then unchanged.
@@ -576,6 +586,8 @@ impl<const W: usize> Connection<W> {
     ///
     /// An ACK frame may name a range of 2^62 numbers. If the caller records the largest number first, a number that was never
     /// sent fails before the caller walks the range. A number that was recorded before need not be recorded again.
+    ///
+    /// # Errors
     ///
     /// Fails with `NoKeys` if the level has no sender, with `NeverSent` if the number was not sent, and with `UpdateUnanswered`
     /// if a packet of the current keys is acknowledged under older ones (RFC 9001 section 6.2). The connection is then
@@ -623,6 +635,8 @@ impl<const W: usize> Connection<W> {
     /// more packets, or fewer than half of a lower limit. The receiver's next key is set as well, since the packet may bring
     /// the acknowledgment after which the peer may update (RFC 9001 section 6.1).
     ///
+    /// # Errors
+    ///
     /// Fails with `NoKeys` if the level has no sender. Fails with `KeyUsedUp` if the key may seal no more packets, or if it may
     /// seal just one, which is kept for `send_close`, while no key update may be initiated. Otherwise it fails as
     /// `Sender::send` does. The packet and the connection are then unchanged.
@@ -657,6 +671,8 @@ impl<const W: usize> Connection<W> {
     }
 
     /// Sends the packet that closes the connection, as `send` does, but up to the limit of the key and without a key update.
+    ///
+    /// # Errors
     ///
     /// Fails with `NoKeys` if the level has no sender, and with `KeyUsedUp` if the key may seal no more packets. Otherwise it
     /// fails as `Sender::send` does. The packet and the connection are then unchanged.
@@ -700,6 +716,8 @@ impl<const W: usize> Connection<W> {
     ///
     /// The sender follows a key update of the peer before the call returns, and so before anything in the packet is
     /// acknowledged (RFC 9001 section 6.2). `Incoming::Packet` then tells the update.
+    ///
+    /// # Errors
     ///
     /// Fails with `TooManyFailures`, whatever the packet, once the limit on packets that fail authentication is reached
     /// (section 6.6). For an authentic packet it fails with `ReservedBits`, `KeyUpdate` and `NoFrames`, as `Receiver::receive`

@@ -87,6 +87,8 @@ impl core::error::Error for DatagramError {}
 /// `connection_id_len` is the length in bytes of the receiver's own connection IDs, which a short header does not hold. If the
 /// version is none of 0, 1 and version 2, only the connection IDs are parsed, and the packet is the rest of the datagram.
 ///
+/// # Errors
+///
 /// Fails with `Cut` if the datagram ends before the packet; with `IdTooLong` if a connection ID of version 1 or 2 has more than
 /// 20 bytes; and with `NoFixedBit`, which has the end of the packet, if the fixed bit of a short header, or of a long one of
 /// version 1 or 2, is 0 and `fixed_bit` is `Required`.

@@ -36,6 +36,8 @@ pub struct HeaderKey {
 impl HeaderKey {
     /// Creates a header protection key from 16 or 32 bytes, the key length of the algorithm.
     ///
+    /// # Errors
+    ///
     /// Fails with `KeyLength` if `key` is not as long.
     ///
     /// <details><summary>Contract</summary>
@@ -77,6 +79,8 @@ impl HeaderKey {
     /// It masks four bits of the first byte of a long header or five of a short one, and as many bytes of the packet number as
     /// the first byte says, or all of `number` if these are fewer.
     ///
+    /// # Errors
+    ///
     /// Fails with `NoSample` if `sample` does not have 16 bytes, and with `NumberLength` if `number` has more than 4. Both are
     /// then unchanged.
     ///
@@ -116,6 +120,8 @@ impl HeaderKey {
     /// It unmasks as many bytes of the packet number as the first byte then says, or all of `number` if these are fewer. Give
     /// four bytes, of which the ones after the packet number are unchanged.
     ///
+    /// # Errors
+    ///
     /// Fails as `encrypt_in_place` does.
     ///
     /// <details><summary>Contract</summary>
@@ -151,6 +157,8 @@ impl HeaderKey {
     /// Masks the header of a sealed packet whose packet number begins at byte `number_at` (RFC 9001 section 5.4.1).
     ///
     /// It masks four bits of the first byte of a long header or five of a short one, and every byte of the packet number.
+    ///
+    /// # Errors
     ///
     /// Fails with `NumberAtFirstByte` if `number_at` is 0, and with `NoSample` if the packet has fewer than `number_at + 20`
     /// bytes. The packet is then unchanged.
@@ -192,6 +200,8 @@ impl HeaderKey {
     /// packet number in bytes, from 1 to 4 (RFC 9001 section 5.4.1).
     ///
     /// The packet is not known to be authentic until it is opened.
+    ///
+    /// # Errors
     ///
     /// Fails with `NumberAtFirstByte` if `number_at` is 0, and with `NoSample` if the packet has fewer than `number_at + 20`
     /// bytes. The packet is then unchanged.

@@ -96,6 +96,8 @@ impl LongHeader<'_> {
     /// To fill a datagram, write the header for a payload of 0 bytes, and again for as many bytes as are left after the number
     /// and the tag: the header is as long for any payload that makes a Length below 16,384.
     ///
+    /// # Errors
+    ///
     /// Fails, in this order, with `NumberLength` if `number_len` is 0 or above 4; with `IdTooLong` if a connection ID has more
     /// than 20 bytes; with `TooLong` if the token, or number, payload and tag together, have 2^30 bytes or more; and with
     /// `NoRoom` if the buffer ends before the packet number does. The buffer is then unchanged.
@@ -206,6 +208,8 @@ impl ShortHeader<'_> {
     /// Writes the header to the front of a buffer, and returns the range of the packet number, which comes after it. The
     /// payload and 16 bytes for the tag follow the number. The fixed bit is 1, and the spin bit and the reserved bits are 0. No
     /// other byte of the buffer changes, so the number isn't written yet.
+    ///
+    /// # Errors
     ///
     /// Fails, in this order, with `NumberLength` if `number_len` is 0 or above 4; with `IdTooLong` if the connection ID has more
     /// than 20 bytes; and with `NoRoom` if the buffer ends before the packet number does. The buffer is then unchanged.

@@ -94,6 +94,8 @@ impl PacketKey {
     /// Creates a key from 16 or 32 bytes, the key length of the algorithm. `iv` is the IV of the packet protection keys (RFC
     /// 9001 section 5.1).
     ///
+    /// # Errors
+    ///
     /// Fails with `KeyLength` if `key` is not as long.
     ///
     /// <details><summary>Contract</summary>
@@ -155,6 +157,8 @@ impl PacketKey {
     ///
     /// The header is left unmasked, for `HeaderKey::protect`.
     ///
+    /// # Errors
+    ///
     /// Fails with `TooShort` if the packet has fewer than `header_len + 16` bytes, with `TooLong` if it is longer than AES-GCM
     /// allows, and with `NumbersEnded` if `number` is 2^62 or more. The packet is then unchanged.
     ///
@@ -204,6 +208,8 @@ impl PacketKey {
 
     /// Seals a payload that is apart from its header, as `seal` does, and returns the tag.
     ///
+    /// # Errors
+    ///
     /// Fails with `TooLong` and `NumbersEnded` as `seal` does. The payload is then unchanged.
     ///
     /// <details><summary>Contract</summary>
@@ -246,6 +252,8 @@ impl PacketKey {
 
     /// Seals a payload from one buffer to another, as `seal` does: writes the ciphertext and its tag to `out`, which has 16
     /// bytes more than the payload.
+    ///
+    /// # Errors
     ///
     /// Fails with `OutputLength` if `out` does not have that length, and with `TooLong` and `NumbersEnded` as `seal` does. `out`
     /// is then unchanged.
@@ -301,6 +309,8 @@ impl PacketKey {
     /// The unmasked header has `header_len` bytes. On success the plaintext payload follows it, and the tag is left after the
     /// payload.
     ///
+    /// # Errors
+    ///
     /// Fails with `TooShort` if the packet has fewer than `header_len + 16` bytes, with `TooLong` if it is longer than AES-GCM
     /// allows, with `NumbersEnded` if `number` is 2^62 or more, and with `Refused` if the tag is wrong. The packet is then
     /// unchanged.
@@ -353,6 +363,8 @@ impl PacketKey {
 
     /// Opens a payload that is apart from its header and ends with its 16-byte tag, as `open` does, and returns the length of
     /// the plaintext in bytes. The plaintext begins where the ciphertext did, and the tag is left after it.
+    ///
+    /// # Errors
     ///
     /// Fails with `TooShort` if `payload` has fewer than 16 bytes, and with `TooLong`, `NumbersEnded` and `Refused` as `open`
     /// does. The payload is then unchanged.
@@ -408,6 +420,8 @@ impl PacketKey {
 
     /// Opens a payload that is apart from its header and its tag, as `open` does.
     ///
+    /// # Errors
+    ///
     /// Fails with `TooLong`, `NumbersEnded` and `Refused` as `open` does. The payload is then unchanged.
     ///
     /// <details><summary>Contract</summary>
@@ -457,6 +471,8 @@ impl PacketKey {
 
     /// Opens a payload from one buffer to another, as `open` does: `sealed` is the ciphertext and its tag, and the plaintext is
     /// written to `out`, which has 16 bytes fewer.
+    ///
+    /// # Errors
     ///
     /// Fails with `OutputLength` if `out` does not have that length, and with `TooLong`, `NumbersEnded` and `Refused` as `open`
     /// does. `out` is then unchanged.

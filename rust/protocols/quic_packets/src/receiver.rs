@@ -169,6 +169,8 @@ impl Receiver {
 
     /// Creates a receiver with keys of the caller's, which must have the key lengths of the suite.
     ///
+    /// # Errors
+    ///
     /// Fails with `KeyLength` if a key is not as long as the suite's.
     ///
     /// <details><summary>Contract</summary>
@@ -223,6 +225,8 @@ impl Receiver {
     /// acknowledgment is sent, and when this endpoint initiates a key update. Until then, a packet of the next phase is rejected
     /// as a forged one is.
     ///
+    /// # Errors
+    ///
     /// Fails with `NoSecret` if the receiver is not made of a secret. The receiver is then unchanged.
     ///
     /// <details><summary>Contract</summary>
@@ -251,6 +255,8 @@ impl Receiver {
 
     /// Sets the key and the IV of the next phase to the caller's, at the times that `set_next` describes. It replaces a next
     /// key that is already set, whereas `set_next` keeps it.
+    ///
+    /// # Errors
     ///
     /// Fails with `KeysDerived` if the receiver is made of a secret, and with `KeyLength` if `key` is not as long as the suite's
     /// keys. The receiver is then unchanged.
@@ -328,6 +334,11 @@ impl Receiver {
     /// On success the header is unmasked, the decrypted payload follows it, and the tag is left after the payload. `space`
     /// holds the numbers received in the packet's number space, and `failures` is the one count of the connection.
     ///
+    /// Before a packet is known to be authentic, no branch and no address depends on its masked bits, except by the length of
+    /// its header and the key that opens it (RFC 9001 section 9.5).
+    ///
+    /// # Errors
+    ///
     /// Fails, in this order, with `TooManyFailures` if the limit of `failures` is reached; with `PastEnd` if the packet ends
     /// after the datagram; with `OtherVersion` if it has a long header of another version than the receiver's; with `NoNumber` if
     /// it has no packet number; with `NumberAtFirstByte` if the number does not begin after the packet's first byte; with
@@ -337,9 +348,6 @@ impl Receiver {
     /// already received or is below the window of `space`, with `KeyUpdate` if its key phase is out of turn, which is so if the
     /// key of its phase is not held or if a packet with a higher number was opened under earlier keys (RFC 9001 section 6.4),
     /// and with `NoFrames` if its payload is empty.
-    ///
-    /// Before a packet is known to be authentic, no branch and no address depends on its masked bits, except by the length of
-    /// its header and the key that opens it (RFC 9001 section 9.5).
     ///
     /// <details><summary>Contract</summary>
     ///

@@ -54,6 +54,8 @@ impl core::error::Error for RetryError {}
 /// `header` and `token` together are the packet without its tag, cut at any byte. `original_id` is the destination connection
 /// ID of the client's first packet. No memory is allocated.
 ///
+/// # Errors
+///
 /// Fails with `IdTooLong` if `original_id` has more than 20 bytes, and with `TooLong` if the ID, a byte for its length, `header`
 /// and `token` together have 2^61 bytes or more (SP 800-38D section 5.2.1.1).
 ///

@@ -146,6 +146,8 @@ impl Sender {
     ///
     /// The Key Phase bit is 0, and the handshake is not confirmed.
     ///
+    /// # Errors
+    ///
     /// Fails with `NumbersEnded` if `first` is above 2^62.
     ///
     /// <details><summary>Contract</summary>
@@ -171,6 +173,8 @@ impl Sender {
     /// number `first`.
     ///
     /// The Key Phase bit is 0, and the handshake is not confirmed.
+    ///
+    /// # Errors
     ///
     /// Fails with `KeyLength` if a key is not as long as the suite's, and with `NumbersEnded` if `first` is above 2^62.
     ///
@@ -380,6 +384,8 @@ impl Sender {
     /// Up to eight ranges of skipped numbers are kept, over key updates and installed keys. A skip that needs a ninth forgets the
     /// lowest one, whose numbers are acknowledged from then on as if they were sent.
     ///
+    /// # Errors
+    ///
     /// Fails with `NumberUsed` if the next number is already above `number`, and with `NumbersEnded` if `number` is above 2^62.
     /// The sender is then unchanged.
     ///
@@ -431,6 +437,8 @@ impl Sender {
     /// A number of the current key phase allows the next key update (RFC 9001 section 6.1), unless it is below the end of a range
     /// of skipped numbers that was forgotten.
     ///
+    /// # Errors
+    ///
     /// Fails with `NeverSent` if `number` is not below the next number, or is in a range of skipped numbers that is kept (see
     /// `skip_to`). The sender is then unchanged, and the connection must be closed (RFC 9000 section 13.1).
     ///
@@ -463,6 +471,8 @@ impl Sender {
 
     /// Records an acknowledgment as `acknowledged` does, where `phase` is the Key Phase bit of the packet that brought it
     /// (`Received::phase`).
+    ///
+    /// # Errors
     ///
     /// Fails with `NeverSent` as `acknowledged` does, and with `UpdateUnanswered` if `phase` differs from the sender's and
     /// `number` is not below `first_of_phase`: the peer received a packet of the current keys, and answered it under older ones.
@@ -504,6 +514,8 @@ impl Sender {
     /// Initiates a key update: continues with the keys of the next secret, in the other key phase (RFC 9001 section 6.1). The
     /// header key is unchanged.
     ///
+    /// # Errors
+    ///
     /// Fails with `HandshakeUnconfirmed` if the handshake is not confirmed, with `PhaseUnacknowledged` if there was an update
     /// and no packet of its phase is acknowledged yet, and with `NoSecret` if the sender is not made of a secret. The sender is
     /// then unchanged.
@@ -531,6 +543,8 @@ impl Sender {
     }
 
     /// Initiates a key update to a packet key and an IV of the caller's, as `initiate_update` does to those of the next secret.
+    ///
+    /// # Errors
     ///
     /// Fails with `HandshakeUnconfirmed` and `PhaseUnacknowledged` as `initiate_update` does, with `KeysDerived` if the sender is
     /// made of a secret, and with `KeyLength` if `key` is not as long as the suite's keys. The sender is then unchanged.
@@ -600,6 +614,8 @@ impl Sender {
     /// Follows a key update of the peer: continues with the keys of the next secret, in the other key phase (RFC 9001 section
     /// 6.2). The header key is unchanged.
     ///
+    /// # Errors
+    ///
     /// Fails with `NoSecret` if the sender is not made of a secret. The sender is then unchanged.
     ///
     /// <details><summary>Contract</summary>
@@ -626,6 +642,8 @@ impl Sender {
 
     /// Follows a key update of the peer with a packet key and an IV of the caller's, as `follow_update` does with those of the
     /// next secret.
+    ///
+    /// # Errors
     ///
     /// Fails with `KeysDerived` if the sender is made of a secret, and with `KeyLength` if `key` is not as long as the suite's
     /// keys. The sender is then unchanged.
@@ -675,6 +693,8 @@ impl Sender {
     /// The next number, the largest acknowledged one and the limit stay. Everything else is as `from_secret` creates it: the
     /// version is the secret's.
     ///
+    /// # Errors
+    ///
     /// Fails with `NoSecret` if the sender is not made of a secret. The sender is then unchanged.
     ///
     /// <details><summary>Contract</summary>
@@ -703,6 +723,8 @@ impl Sender {
 
     /// Continues with keys of the caller's, as `install_secret` does with those of a secret: after 0-RTT packets, and after a
     /// Retry packet, with the numbers of the Initial packets before it (RFC 9000 section 17.2.5.3).
+    ///
+    /// # Errors
     ///
     /// Fails with `KeysDerived` if the sender is made of a secret, and with `KeyLength` if a key is not as long as the suite's.
     /// The sender is then unchanged.
@@ -764,6 +786,8 @@ impl Sender {
     /// The packet is the header, which ends with room for the number, the payload, and 16 bytes for the tag. The room has from
     /// `next_number_len` to 4 bytes. A long header's Length field, which comes before the number, is the caller's
     /// responsibility.
+    ///
+    /// # Errors
     ///
     /// Fails with `TooShort` if the packet has fewer than `number.end + 16` bytes; with `TooLong` if it is longer than AES-GCM
     /// allows; with `NumberAtFirstByte` if `number.start` is 0; with `NoSample` if number and payload together have fewer than

@@ -46,6 +46,8 @@ pub fn plaintext_alert(alert: [u8; ALERT_LEN]) -> [u8; 7] {
 impl Writer {
     /// Appends the record of close_notify, after which this side sends nothing more (RFC 8446 section 6.1).
     ///
+    /// # Errors
+    ///
     /// Fails as `write` does, and then appends nothing and uses no number.
     ///
     /// <details><summary>Contract</summary>

@@ -401,6 +401,8 @@ impl<'b> Connection<'b> {
     /// Appends the records of application data of any length to `out`, and before them, under the old key, a KeyUpdate that asks
     /// for none, if the peer has asked for one or if the content has more records than `remaining`.
     ///
+    /// # Errors
+    ///
     /// Fails with `Ended` after `close` or `abort`; with `KeyUsedUp` if the content has more records than a fresh key has numbers
     /// for, all but two of its limit, or if a KeyUpdate is to come first and not even its number is left; and with `OutOfMemory`
     /// only if the capacity of `out` is too small. Nothing is then written.
@@ -428,6 +430,8 @@ impl<'b> Connection<'b> {
 
     /// Appends the records of application data as `send` does, each with `padding` zeros, which hide its length (RFC 8446 section
     /// 5.4).
+    ///
+    /// # Errors
     ///
     /// Fails as `send` does and, before `KeyUsedUp`, with `ContentTooLong` if the padding leaves no room for one byte of the
     /// content in a record. Nothing is then written.
@@ -467,6 +471,8 @@ impl<'b> Connection<'b> {
     /// and before them a KeyUpdate where `send` does: NewSessionTickets of a server (section 4.6.1), and with post-handshake
     /// authentication a CertificateRequest of a server, or Certificate, CertificateVerify and Finished of a client (section
     /// 4.6.2).
+    ///
+    /// # Errors
     ///
     /// Fails with `Ended` after `close` or `abort`, with `EmptyContent` for no message, with `MessageLength` if they are not
     /// whole, with `MessageType` for one that `Stage::may_send` does not name at the `Stage` of the connection or that follows a
@@ -508,6 +514,8 @@ impl<'b> Connection<'b> {
 
     /// Appends a KeyUpdate with this request to `out`, under the old key, and continues under the next traffic secret (RFC 8446
     /// sections 4.6.3 and 7.2). If the peer has asked for a KeyUpdate, the answer is appended first.
+    ///
+    /// # Errors
     ///
     /// Fails with `Ended` after `close` or `abort`, with `KeyUsedUp` if only the number for an alert is left under this key, and
     /// with `OutOfMemory` only if the capacity of `out` is too small. Nothing is then written.
@@ -551,6 +559,8 @@ impl<'b> Connection<'b> {
     /// Appends close_notify to `out`, after which nothing more is sent (RFC 8446 section 6.1). What the peer sends is still
     /// received.
     ///
+    /// # Errors
+    ///
     /// Fails with `Ended` after `close` or `abort`, with `KeyUsedUp` if no number is left, and with `OutOfMemory` only if the
     /// capacity of `out` is too small. Nothing is then written.
     ///
@@ -572,6 +582,8 @@ impl<'b> Connection<'b> {
     }
 
     /// Appends a fatal alert to `out`, after which nothing more is sent (RFC 8446 section 6.2).
+    ///
+    /// # Errors
     ///
     /// Fails as `close` does. Nothing is then written.
     ///

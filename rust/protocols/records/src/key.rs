@@ -80,6 +80,8 @@ impl RecordKey {
     /// Creates a key from 16 or 32 bytes, the key length of the algorithm. `iv` is the write_iv (RFC 8446 section 7.3). The
     /// size limit is 2^14 + 1 bytes.
     ///
+    /// # Errors
+    ///
     /// Fails with `KeyLength` if `key` is not as long.
     ///
     /// <details><summary>Contract</summary>
@@ -185,6 +187,8 @@ impl RecordKey {
     /// The content is the `content_len` bytes of `bytes` from byte 5 on. The header is written before it, and its type,
     /// `padding` zeros and the tag after it. The bytes after the tag are unchanged. Each number may be used only once.
     ///
+    /// # Errors
+    ///
     /// Fails with `EmptyContent` for an empty alert or handshake content, with `AlertLength` for an alert of another length than
     /// two bytes, with `ContentTooLong` if content, type and padding exceed the size limit, and with `NoRoom` if `bytes` is too
     /// short for the record. `bytes` is then unchanged.
@@ -229,6 +233,8 @@ impl RecordKey {
 
     /// Like `seal_at` from one buffer to another: writes the record of this content to the front of `out`. The bytes after it
     /// are unchanged.
+    ///
+    /// # Errors
     ///
     /// Fails as `seal_at` does, with `NoRoom` if `out` is too short for the record. `out` is then unchanged.
     ///
@@ -333,6 +339,8 @@ impl RecordKey {
     ///
     /// The content is the first `content_len` bytes of `payload`. Its type, `padding` zeros and the tag are written after it.
     /// The bytes after the tag are unchanged. Each number may be used only once.
+    ///
+    /// # Errors
     ///
     /// Fails as `seal_at` does, with `NoRoom` if `payload` is too short. `payload` is then unchanged.
     ///
@@ -444,6 +452,8 @@ impl RecordKey {
     /// Opens the record with this number, which is the whole of `bytes`, in place, and returns the type of its content and its
     /// length in bytes. The content is then `bytes[5..5 + length]`.
     ///
+    /// # Errors
+    ///
     /// Fails with `WrongLength` if `bytes` is not as long as its header says; with `UnexpectedRecord`, `EncryptedRecordTooLong`,
     /// `InnerPlaintextTooLong` or `EncryptedRecordTooShort` if no record under this key has that header; and with `Refused` if
     /// the record is not authentic. `bytes` is then unchanged. An authentic record fails with `NoContentType`, `UnexpectedType`,
@@ -520,6 +530,8 @@ impl RecordKey {
 
     /// Like `open_at` from one buffer to another: the content is then `out[..length]`. `out` has room for the inner plaintext,
     /// 21 bytes fewer than the record has, and the bytes after that are unchanged.
+    ///
+    /// # Errors
     ///
     /// Fails as `open_at` does, and with `NoRoom` if `out` is shorter and the header is right. Nothing is written before the
     /// record is authenticated. After `NoContentType`, `UnexpectedType`, `EmptyContent` and `AlertLength`, the record's inner

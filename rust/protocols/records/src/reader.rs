@@ -119,6 +119,8 @@ impl Reader {
     /// Creates a reader whose next record is record 0, with a limit of 2^64 - 1 records under each key: RFC 8446 section 5.5
     /// limits what is sealed. `key` has 16 or 32 bytes, and `iv` is the write_iv (section 7.3).
     ///
+    /// # Errors
+    ///
     /// Fails with `KeyLength` if `key` is not as long as the algorithm's keys.
     ///
     /// <details><summary>Contract</summary>
@@ -236,6 +238,8 @@ impl Reader {
     /// Sets the size limit, from 64 to 2^14 + 1 bytes: the RecordSizeLimit that was sent to the peer (RFC 8449 section 4). It
     /// stays over key updates.
     ///
+    /// # Errors
+    ///
     /// Fails with `SizeLimit` for any other limit, and with `Closed` if the reader is closed. The reader is then unchanged.
     ///
     /// <details><summary>Contract</summary>
@@ -260,6 +264,8 @@ impl Reader {
 
     /// Continues under the next traffic secret, after a KeyUpdate was read. The number and the count of records start again at 0
     /// (RFC 8446 sections 5.3 and 7.2).
+    ///
+    /// # Errors
     ///
     /// Fails with `Closed` if the reader is closed, and with `NoSecret` if it was made of a key. It is then unchanged.
     ///
@@ -292,6 +298,8 @@ impl Reader {
 
     /// Continues with the next key and IV of this direction, after a KeyUpdate or the last record of the handshake was read.
     /// The number and the count of records start again at 0 (RFC 8446 sections 5.3 and 7.2).
+    ///
+    /// # Errors
     ///
     /// Fails with `Closed` if the reader is closed, with `HasSecret` if it was made of a secret, and with `KeyLength` if `key` is
     /// not as long as the algorithm's keys. The reader is then unchanged.

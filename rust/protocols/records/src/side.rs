@@ -16,6 +16,8 @@ impl Side {
     ///
     /// A server takes a value above 2^14 + 1 as 2^14 + 1, since the client may know of an extension with longer records.
     ///
+    /// # Errors
+    ///
     /// Fails with `PeerSizeLimit` for a value above 2^14 + 1 at a client, and for a value below 64 at either side.
     ///
     /// <details><summary>Contract</summary>

@@ -102,6 +102,8 @@ impl Writer {
     /// Creates a writer whose next record is record 0, with a limit of 2^24 records under each key (RFC 8446 section 5.5).
     /// `key` has 16 or 32 bytes, and `iv` is the write_iv (section 7.3).
     ///
+    /// # Errors
+    ///
     /// Fails with `KeyLength` if `key` is not as long as the algorithm's keys.
     ///
     /// <details><summary>Contract</summary>
@@ -206,6 +208,8 @@ impl Writer {
     /// `Side::size_limit_of` gives it. A longer content is cut by `write_content` and `seal_content`, and rejected by `write` and
     /// `seal`. The limit stays over key updates.
     ///
+    /// # Errors
+    ///
     /// Fails with `SizeLimit` for any other limit, and the writer is then unchanged.
     ///
     /// <details><summary>Contract</summary>
@@ -225,6 +229,8 @@ impl Writer {
 
     /// Continues under the next traffic secret, after a KeyUpdate was written. The number and the count of records start again at
     /// 0 (RFC 8446 sections 5.3 and 7.2).
+    ///
+    /// # Errors
     ///
     /// Fails with `NoSecret` if the writer was made of a key. It is then unchanged.
     ///
@@ -253,6 +259,8 @@ impl Writer {
 
     /// Continues with the next key and IV of this direction, after a KeyUpdate or the last record of the handshake was written.
     /// The number and the count of records start again at 0 (RFC 8446 sections 5.3 and 7.2).
+    ///
+    /// # Errors
     ///
     /// Fails with `HasSecret` if the writer was made of a secret, with `SameKey` if it has this key and this IV, whose numbers
     /// from 0 on it has used or will use, and with `KeyLength` if `key` is not as long as the algorithm's keys. The writer is

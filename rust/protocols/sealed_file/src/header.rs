@@ -154,6 +154,8 @@ fn random_in(header: &[u8; HEADER_LEN]) -> FileRandom {
     FileRandom::of_bytes(random)
 }
 
+/// # Errors
+///
 /// Fails unless a header begins with the magic and this version.
 // ensures front { IsOk result → IsVersion version header.now }
 // ensures refused { IfErr result (λ error. VersionRefuses version header.now error) }
@@ -171,6 +173,8 @@ pub(crate) fn check_front(version: u8, header: &[u8]) -> Result<(), FileError> {
     Ok(())
 }
 
+/// # Errors
+///
 /// Fails unless these bytes begin with the magic, version 2 and a whole header. The commitment is not compared.
 ///
 /// <details><summary>Contract</summary>

@@ -77,6 +77,8 @@ fn append_sealed(
 
 /// Seals `file`, and appends the sealed file to `out`.
 ///
+/// # Errors
+///
 /// Fails with `TooLong` if the file has more than `MAX_CHUNKS` chunks, and otherwise with `OutOfMemory` only if `out` has no
 /// room for the sealed file and cannot grow. `out` then holds the bytes that it held before.
 ///
@@ -245,6 +247,8 @@ fn append_opened_file(key: &FileKey, sealed: &[u8], out: &mut Vec<u8>) -> Result
 }
 
 /// Opens a sealed file, and appends the file to `out`.
+///
+/// # Errors
 ///
 /// Fails with the errors of `open`, except `Io`, and with `OutOfMemory` only if `out` has no room for the file and cannot grow.
 /// `out` then holds the bytes that it held before.

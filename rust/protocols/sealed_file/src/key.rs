@@ -31,6 +31,8 @@ impl Drop for FileKey {
 impl FileKey {
     /// Creates a key from 32 bytes.
     ///
+    /// # Errors
+    ///
     /// Fails with `KeyLength` if `bytes` does not have 32 bytes.
     ///
     /// <details><summary>Contract</summary>

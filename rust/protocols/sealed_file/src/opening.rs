@@ -14,6 +14,8 @@ use std::mem;
 /// It keeps two chunks in memory, and writes the message of a chunk only after its tag is verified. What was written before an
 /// error is authentic, but may be only the beginning of the file.
 ///
+/// # Errors
+///
 /// Fails with `Io` if reading, writing or allocating memory fails. Every other error says what is wrong with the file:
 /// `AnotherMagic` and `AnotherVersion`; `WrongKey`, if the header commits to another key or was changed, before any chunk is
 /// read; `EndsEarly`, if the file ends within the header or a tag, or after a chunk that is not the last;

@@ -55,6 +55,8 @@ fn concatenated(first: &[u8], second: &[u8]) -> io::Result<Vec<u8>> {
 /// `MAX_ITERATIONS`: `ITERATIONS`, unless the passphrase is as hard to guess as a key. The file is bound to `aad`, at most
 /// `MAX_AAD_LEN` bytes, as by `seal_with_aad`.
 ///
+/// # Errors
+///
 /// Fails with the errors of `seal`. What was written by then is the beginning of the sealed file.
 ///
 /// # Panics
@@ -112,6 +114,8 @@ pub fn seal_with_passphrase<R: Read, W: Write>(
 }
 
 /// Returns the iterations in the header of a file of version 3 that begins with these bytes. The commitment is not compared.
+///
+/// # Errors
 ///
 /// Fails with `EndsEarly` if the bytes end within the magic or the version, and otherwise with the first that is so:
 /// `AnotherMagic`; `AnotherVersion`; `EndsEarly`, if they end within the header; and `Iterations`, if those are 0 or more than
@@ -175,6 +179,8 @@ fn derive_key_and_aad(
 }
 
 /// Opens the file in `input` that is sealed under a passphrase, and writes the file to `output`, as `open_with_aad` does.
+///
+/// # Errors
 ///
 /// Fails with the errors of `open`: `AnotherVersion` for a file that is sealed under a key, and `WrongKey` for another
 /// passphrase. Fails with `Iterations` if a whole header of version 3 has 0 iterations or more than `MAX_ITERATIONS`, before it

@@ -36,6 +36,8 @@ impl FileRandom {
 
     /// Draws the random bytes of a file from a source, such as the system's generator.
     ///
+    /// # Errors
+    ///
     /// Fails with the error of the source.
     ///
     /// <details><summary>Contract</summary>

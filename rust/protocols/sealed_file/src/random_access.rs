@@ -44,6 +44,8 @@ fn append_chunk_at(
 /// The other chunks are not checked: the file may lack them, or have others in their place. Only opening the last chunk with
 /// `is_last` shows that the file ends where it ended when it was sealed.
 ///
+/// # Errors
+///
 /// Fails with the errors of `open` for the header and for this chunk, except `Io`, and with `OutOfMemory` only if `out` has no
 /// room for the message and cannot grow. `out` then holds the bytes that it held before.
 ///

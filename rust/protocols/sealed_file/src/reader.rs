@@ -299,6 +299,8 @@ impl<R: ReadAt> SealedReader<R> {
     ///
     /// `aad` is what the file is bound to, at most `MAX_AAD_LEN` bytes.
     ///
+    /// # Errors
+    ///
     /// Fails with the errors of `open` for the header, with `TooLong` or `EndsEarly` if no sealed file has this length, with the
     /// errors of `open` for the last chunk, with `Io` if reading fails, and with `OutOfMemory` if memory cannot be allocated.
     ///

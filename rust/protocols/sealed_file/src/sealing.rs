@@ -14,6 +14,8 @@ use std::mem;
 ///
 /// It keeps two chunks in memory.
 ///
+/// # Errors
+///
 /// Fails with `TooLong` if the file has more than `MAX_CHUNKS` chunks, and with `Io` if reading, writing or allocating memory
 /// fails. What was written by then is the beginning of the sealed file.
 ///

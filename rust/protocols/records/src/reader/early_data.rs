@@ -74,6 +74,8 @@ impl EarlyData {
     /// Passes over the protected record that is the whole of `bytes`, without a key: after a HelloRetryRequest, a server passes
     /// over the records of type 23 until the second ClientHello.
     ///
+    /// # Errors
+    ///
     /// Fails with `TooMuchEarlyData` if the record counts as more than `remaining` bytes, or if the early data is over, and as
     /// `classify` does if `bytes` is not one protected record, of up to 2^14 + 256 bytes. Nothing is then counted.
     ///
@@ -111,6 +113,8 @@ impl Reader {
     /// Returns `None` if the record is passed over: it is not authentic, or it is longer than the size limit, which the client
     /// had not seen, but at most 2^14 + 256 bytes long. It uses no number, `early_data` counts it, and the buffer is unchanged.
     /// The first record that opens ends the early data: from then on this call does the same as `gather`.
+    ///
+    /// # Errors
     ///
     /// Fails with `TooMuchEarlyData` if the record counts as more than `early_data.remaining()` bytes, and in any other case as
     /// `gather` does.
