@@ -136,7 +136,7 @@ fn rfc_8448(rt: HostRuntime) -> Result<(), Fail> {
     Ok(())
 }
 
-/// The traffic secrets of RFC 8448 section 3, and two keys of Finished: the secret that each is derived from, its label, the
+/// The traffic secrets and the exporter master secret of RFC 8448 section 3: the secret that each is derived from, its label, the
 /// hash of the messages, and the result, in hex.
 const TRAFFIC: [(&str, &str, &str, &str); 5] = [
     (

@@ -1,7 +1,7 @@
 //! What the relays of both protocols share: the lines by which `interop/relay` speaks with them.
 //!
-//! A program of `src/bin` is called with the names of the files that it reads and writes. A line with the name of its protocol begins
-//! a connection. Each line is answered by lines, and by one with a dot at the end. Bytes are in hexadecimal.
+//! A program of `src/bin` is called with the names of the files that it reads and writes. A line with the name of its protocol
+//! begins a connection. Each line is answered by lines, and by one with a dot at the end. Bytes are in hexadecimal.
 //!
 //! - `secret LABEL BYTES`: a secret that a peer has logged under this label
 //! - `client BYTES`, `server BYTES`: what came from this peer, a part of its stream or a datagram

@@ -1,8 +1,8 @@
 //! Relays connections of TLS 1.3 over a stream: `tls IN OUT`, with the files that it reads and writes.
 //!
-//! The records of the handshake pass as they are. What comes after a peer's Finished is received by the connection towards it, and
-//! sent by the one towards the other peer: application data, and NewSessionTickets. Beside the lines that say which bytes are to be
-//! sent, an answer has these:
+//! The records of the handshake pass as they are. What comes after a peer's Finished is received by the connection towards it,
+//! and sent by the one towards the other peer: application data, and NewSessionTickets. Beside the lines that say which bytes
+//! are to be sent, an answer has these:
 //!
 //! - `followed`: the peer has updated its keys; `answered`: it has because the relay has asked for it
 //! - `updated`: the relay has updated its keys; `early`: it may not yet
