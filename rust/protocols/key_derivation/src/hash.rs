@@ -2,7 +2,7 @@
 //! The hash functions under HMAC, SHA-256 and SHA-384, with the lengths of their blocks and digests (FIPS 180-4).
 
 use sha2::digest::{self, Digest};
-use sha2::{Sha256, Sha384};
+pub use sha2::{Sha256, Sha384};
 
 /// The length of the longest block in bytes, that of SHA-384.
 pub(crate) const MAX_BLOCK_LEN: usize = 128;

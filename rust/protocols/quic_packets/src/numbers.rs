@@ -56,7 +56,7 @@ pub fn number_len(number: u64, largest_acknowledged: Option<u64>) -> Option<usiz
 ///
 /// # Panics
 ///
-/// Panics if `len` isn't from 1 to 4, or if `truncated` has more than `len` bytes.
+/// Panics if `len` isn't from 1 to 4.
 ///
 /// <details><summary>Contract</summary>
 ///
@@ -71,10 +71,6 @@ pub fn number_len(number: u64, largest_acknowledged: Option<u64>) -> Option<usiz
 /// </details>
 pub fn decode(largest_received: Option<u64>, truncated: u64, len: usize) -> u64 {
     assert!((1..=4).contains(&len), "len isn't from 1 to 4");
-    assert!(
-        truncated >> (8 * len) == 0,
-        "truncated has more than len bytes"
-    );
 
     let expected = match largest_received {
         None => 0,
