@@ -560,6 +560,8 @@ class Writer:
         if key not in lists.CHECKED:
             raise self.source.fault(it.before[-1].line, f"nothing checks what `{it.name}` requires")
         self.source.used.add(key)
+        if not lists.CHECKED[key]:
+            return lead
         checks = " ".join(f'assert!({condition}, "{said.replace("`", "")}");' for condition, said in lists.CHECKED[key])
         it.body = [it.body[0], *made(f"\n{checks}\n", it.body[0].line), *it.body[1:]]
         return contracts.with_panics(lead, [said for _, said in lists.CHECKED[key]])

@@ -308,18 +308,17 @@ REWRITTEN = [
 ]
 
 # What public functions of the packages in rust/protocols require, and check: conditions, each with what isn't so if it fails. Each
-# such function with a `requires` has an entry. `decode` doesn't check `truncated`, on which no branch may depend before the packet is
-# known to be authentic (RFC 9001 section 9.5).
+# such function with a `requires` has an entry. Those of `numbers` check nothing: each packet passes them before it is known to be
+# authentic, and until then no branch may depend on its number (RFC 9001 section 9.5).
 OF_AAD = ("aad.len() <= crate::MAX_AAD_LEN", "`aad` has more than `MAX_AAD_LEN` bytes")
 OF_WINDOW = ("(2..=64).contains(&W)", "`W` isn't from 2 to 64")
 OF_RANGE = (
     ("at <= end && end <= bytes.len()", "`at` and `end` aren't a range of `bytes`"),
     ("filled <= at + crate::HEADER_LEN", "`filled` is beyond the header at `at`"),
 )
-OF_LEN = ("(1..=4).contains(&len)", "`len` isn't from 1 to 4")
 CHECKED = {
-    ("quic_packets/numbers.rt", "decode"): (OF_LEN,),
-    ("quic_packets/numbers.rt", "truncated"): (OF_LEN, ("4 <= packet.len().saturating_sub(number_at)", "`packet` ends within four bytes after `number_at`")),
+    ("quic_packets/numbers.rt", "decode"): (),
+    ("quic_packets/numbers.rt", "truncated"): (),
     ("quic_packets/connection.rt", "new"): (OF_WINDOW,),
     ("quic_packets/space.rt", "new"): (OF_WINDOW,),
     ("records/reader.rt", "gather"): OF_RANGE,

@@ -115,7 +115,7 @@ def tables(counts):
     rows = [("each file" if it.file == "*" else of_place((it.file, ""))[0], f"`{' '.join(it.old.split())}`", f"`{' '.join(it.new.split())}`", it.why) for it in lists.REPLACED]
     rows += [("each file", old, new, why) for old, new, why in lists.REWRITTEN]
     yield "Replaced:", table(("Where", "What", "By", "Why"), rows)
-    rows = [(f"`{place[1]}` of {of_place(place)[0]}", ", ".join(f"`{condition}`" for condition, _ in checks)) for place, checks in lists.CHECKED.items()]
+    rows = [(f"`{place[1]}` of {of_place(place)[0]}", ", ".join(f"`{condition}`" for condition, _ in checks) or "nothing") for place, checks in lists.CHECKED.items()]
     yield "Checked by public functions of `rust/protocols`, which panic otherwise, since Rust doesn't verify what they require:", table(("Function", "Conditions"), rows)
     rows = [(f"`{path}`", why) for path, why in lists.BY_HAND.items()]
     yield "Written by hand, below `rust/protocols`:", table(("File", "Why"), rows)

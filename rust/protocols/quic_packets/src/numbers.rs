@@ -54,10 +54,6 @@ pub fn number_len(number: u64, largest_acknowledged: Option<u64>) -> Option<usiz
 /// was received in an authentic packet. The result is the number with these low bits that is nearest to the expected one,
 /// `largest_received + 1`, and the greater of two that are equally near.
 ///
-/// # Panics
-///
-/// Panics if `len` isn't from 1 to 4.
-///
 /// <details><summary>Contract</summary>
 ///
 /// ```text
@@ -70,8 +66,6 @@ pub fn number_len(number: u64, largest_acknowledged: Option<u64>) -> Option<usiz
 ///
 /// </details>
 pub fn decode(largest_received: Option<u64>, truncated: u64, len: usize) -> u64 {
-    assert!((1..=4).contains(&len), "len isn't from 1 to 4");
-
     let expected = match largest_received {
         None => 0,
         Some(largest) if largest < NUMBERS_END - 1 => largest + 1,
@@ -86,10 +80,6 @@ pub fn decode(largest_received: Option<u64>, truncated: u64, len: usize) -> u64 
 /// It reads four bytes, whatever the length, because the length in a received header is not authenticated before the packet is
 /// opened (RFC 9001 section 9.5).
 ///
-/// # Panics
-///
-/// Panics if `len` isn't from 1 to 4, or if `packet` ends within four bytes after `number_at`.
-///
 /// <details><summary>Contract</summary>
 ///
 /// ```text
@@ -101,12 +91,6 @@ pub fn decode(largest_received: Option<u64>, truncated: u64, len: usize) -> u64 
 ///
 /// </details>
 pub fn truncated(packet: &[u8], number_at: usize, len: usize) -> u64 {
-    assert!((1..=4).contains(&len), "len isn't from 1 to 4");
-    assert!(
-        4 <= packet.len().saturating_sub(number_at),
-        "packet ends within four bytes after number_at"
-    );
-
     let four = u32::from_be_bytes([
         packet[number_at],
         packet[number_at + 1],

@@ -6,7 +6,7 @@ use deerlapse::aead::AES_128_GCM;
 use deerlapse::tls_messages::Stage;
 use key_derivation::Secret;
 use quic_packets::connection::Connection as QuicConnection;
-use quic_packets::{FixedBit, Space, numbers};
+use quic_packets::{FixedBit, Space};
 use records::connection::Connection;
 use records::{EarlyData, Reader, Writer};
 use sealed_file::{FileKey, FileRandom, MAX_AAD_LEN, MAX_ITERATIONS, SEALED_CHUNK_LEN};
@@ -29,7 +29,7 @@ fn secret() -> Secret {
 }
 
 #[test]
-fn windows_and_numbers_of_quic() {
+fn windows_of_quic() {
     let wanted = "W isn't from 2 to 64";
     panics(|| _ = Space::<1>::new(), wanted);
     panics(|| _ = Space::<65>::new(), wanted);
@@ -42,14 +42,6 @@ fn windows_and_numbers_of_quic() {
         wanted,
     );
     assert_eq!(panic_of(|| _ = Space::<64>::new()), None);
-    for len in [0, 5] {
-        let wanted = "len isn't from 1 to 4";
-        panics(|| _ = numbers::decode(None, 0, len), wanted);
-        panics(|| _ = numbers::truncated(&[0; 8], 0, len), wanted);
-    }
-    let wanted = "packet ends within four bytes after number_at";
-    panics(|| _ = numbers::truncated(&[0; 8], 5, 1), wanted);
-    panics(|| _ = numbers::truncated(&[0; 8], 9, 1), wanted);
 }
 
 #[test]
