@@ -53,7 +53,8 @@ pub enum Level {
 /// 64. A packet whose number is below the window is dropped as a duplicate, and the ranges of an ACK frame do not reach below
 /// it.
 ///
-/// An error of `receive` or `acknowledged` with a code (`ReceiveError::code`, `NumberError::code`) closes the connection.
+/// After an error of `receive` or `acknowledged` with a code (`ReceiveError::code`, `NumberError::code`), the caller closes the
+/// connection with that code.
 #[derive(Drop)]
 pub struct Connection<const W: usize> {
     initial: Ends<W>,
@@ -375,13 +376,16 @@ impl<const W: usize> Connection<W> {
     /// fixed bit if the peer allows 0, and sets it to 1 otherwise (see `set_peer_fixed_bit`). That the header's type is one of
     /// the level is the caller's responsibility.
     ///
-    /// After a 1-RTT packet, a key update is initiated, if `initiate_update` allows one, once the key may seal fewer than 2^16
-    /// more packets, or fewer than half of a lower limit. The receiver's next key is set as well, since the packet may bring
-    /// the acknowledgment after which the peer may update (RFC 9001 section 6.1).
+    /// The number and the payload together have at least 4 bytes. The caller adds PADDING frames, which are zeros, to a shorter
+    /// payload, such as that of a PING frame alone.
     ///
-    /// Fails with `NoKeys` if the level has no sender. Fails with `KeyUsedUp` if the key may seal no more packets, or if it may
-    /// seal just one, which is kept for `send_close`, while no key update may be initiated. Otherwise it fails as
-    /// `Sender::send` does. The packet and the connection are then unchanged.
+    /// After a 1-RTT packet, a key update is initiated, if `initiate_update` allows one, once the key may seal fewer than 2^16
+    /// more packets and fewer than half of its limit. The receiver's next key is set as well, since the packet may bring the
+    /// acknowledgment after which the peer may update (RFC 9001 section 6.1).
+    ///
+    /// Fails with `NoKeys` if the level has no sender, and with `KeyUsedUp` if the key may seal no more packets. While no key
+    /// update may be initiated, it also fails with `KeyUsedUp` if the key may seal just one more packet, which is kept for
+    /// `send_close`. Otherwise it fails as `Sender::send` does. The packet and the connection are then unchanged.
     pub fn send(
         &mut self,
         level: Level,
@@ -402,6 +406,7 @@ impl<const W: usize> Connection<W> {
     }
 
     /// Sends the packet that closes the connection, as `send` does, but up to the limit of the key and without a key update.
+    /// The connection doesn't note that it is closed: the caller sends nothing else from then on (RFC 9000 section 10.2).
     ///
     /// Fails with `NoKeys` if the level has no sender, and with `KeyUsedUp` if the key may seal no more packets. Otherwise it
     /// fails as `Sender::send` does. The packet and the connection are then unchanged.

@@ -86,8 +86,9 @@ impl LongHeader<'_> {
     /// has the fewest bytes, and Length has two, or four from 16,384 on. No other byte of the buffer changes, so the number
     /// isn't written yet.
     ///
-    /// To fill a datagram, write the header for a payload of 0 bytes, and again for as many bytes as are left after the number
-    /// and the tag: the header is as long for any payload that makes a Length below 16,384.
+    /// To fill a datagram of n bytes, write the header with a `payload_len` of 0, which returns the range of the number, and
+    /// again with n bytes less the end of that range and the tag. The header is as long for any payload that makes a Length
+    /// below 16,384.
     ///
     /// Fails, in this order, with `NumberLength` if `number_len` is 0 or above 4; with `IdTooLong` if a connection ID has more
     /// than 20 bytes; with `TooLong` if the token, or number, payload and tag together, have 2^30 bytes or more; and with

@@ -38,7 +38,8 @@ pub enum SendError {
     /// The fixed bit is 0 and must be 1 (RFC 9000 sections 17.2 and 17.3.1).
     #[error("the fixed bit of the packet is 0")]
     NoFixedBit,
-    /// The packet to be sent has no payload, where a payload has at least one frame (RFC 9000 section 12.4).
+    /// The packet to be sent has no payload, where a payload has at least one frame (RFC 9000 section 12.4). With a number of
+    /// fewer than 4 bytes, `NoSample` comes first.
     #[error("the packet has no payload")]
     EmptyPayload,
     /// The packet number is not below 2^62, where packet numbers end: no packet may be sent after the last number (RFC 9000
@@ -47,7 +48,8 @@ pub enum SendError {
     NumbersEnded,
     /// The key has sealed as many packets as its limit allows (RFC 9001 section 6.6). A key update follows it. The key cannot
     /// seal the packet that closes the connection either, so a caller that cannot update closes it with `AEAD_LIMIT_REACHED`
-    /// (0x0f) while `Sender::remaining` is above 0.
+    /// (0x0f) while `Sender::remaining` is above 0. `Connection::send` fails with it one packet earlier while no key update may
+    /// be initiated, so that `Connection::send_close` can still seal that packet.
     #[error("the key has reached its limit of packets")]
     KeyUsedUp,
     /// The output does not have the length of the result.

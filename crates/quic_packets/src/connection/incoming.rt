@@ -37,7 +37,9 @@ pub enum Incoming {
     /// The keys for packets of this type are not installed yet. Nothing has changed, so the caller may keep the packet until
     /// they are, as far as it has room (RFC 9001 section 5.7).
     NoKeys(PacketType),
-    /// The packet is dropped for this error, which does not close the connection.
+    /// The packet is dropped for this error, which does not close the connection. Unless the error is `Duplicate`, the datagram
+    /// is unchanged, and for `Refused` a failure is counted. A stateless reset is dropped so too: the caller compares the last
+    /// 16 bytes of the datagram with the tokens that it has (RFC 9000 section 10.3.1).
     Dropped(ReceiveError),
     /// The packet is ignored, and nothing has changed, for one of three reasons. It cannot be parsed, or has another
     /// destination ID than the first packet of the datagram (RFC 9000 section 12.2). Its type has no keys: Retry, Version

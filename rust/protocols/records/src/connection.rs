@@ -68,18 +68,19 @@ pub struct Parts {
 ///
 /// - The handshake has ended: `new`, with the first application traffic secret of each direction. `Secret` is a type of
 ///   `deerlapse-key-derivation`, and `Stage` one of `deerlapse`. A handshake message of the peer that is longer than the buffer,
-///   with its header of four bytes, ends the connection: `receive` fails with `MessageError::TooLong`.
+///   with its header of four bytes, ends the connection: `receive` fails with `MessageError::TooLong`. A KeyUpdate has five bytes.
 /// - Bytes have arrived: `receive`. The caller drops the bytes of the records that it took, and keeps the others until more arrive.
 /// - There is data to send: `send`. If the peer has asked for a KeyUpdate, the answer goes before the data. No call sends the answer
 ///   alone: `send` of no data sends it and an empty record.
 /// - The keys are to change: `send_key_update`.
 /// - There is nothing more to send: `close`. The peer's data is received until its close_notify, after which `is_ended` is true.
-/// - `receive` has failed: `abort` with the error's alert. `Alert` and `Ended` have none, and nothing is sent after them.
+/// - `receive` has failed: `abort` with the error's alert, if it has one. After `Alert`, the caller sends nothing more (section 6.2),
+///   although `send` wouldn't fail. `Ended` only repeats that nothing more is received: after close_notify, `send` and `close` may still
+///   be called.
 /// - The stream has ended, and `is_ended` is false: an attacker may have cut it (RFC 8446 section 6.1). What came is not all.
 ///
 /// A call that sends and fails has written nothing. After `OutOfMemory` it may be made again, and after `KeyUsedUp` with less content.
-/// `Ended` comes after `close` and `abort`. The other errors are of what the caller passed.
-/// `receive` fails with `OutOfMemory` if what it appends to needs to grow and there is no memory. Application data needs none if
+/// `Ended` comes after `close` and `abort`. The other errors are of what the caller passed. `receive` fails with `OutOfMemory` if what it appends to needs to grow and there is no memory. Application data needs none if
 /// `application_data` has room for as many bytes as have arrived.
 ///
 /// ```
