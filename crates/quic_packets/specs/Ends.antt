@@ -142,7 +142,7 @@ peer_update sender was now = if differ was now then Some (update_into sender now
 
 -- Sending.
 
--- fewer than 2^16 packets are left to the key, or fewer than half of a lower limit
+-- fewer than 2^16 packets are left to the key, and fewer than half of its limit
 abbrev pub is_update_due : Option Sender → Bool
 is_update_due None = false
 is_update_due (Some s) = nat_lt (left s) (2 ^ 16) && nat_lt (2 * left s) s.limit

@@ -294,7 +294,7 @@
 //! <div id="is_update_due"></div>
 //!
 //! ```text
-//! -- fewer than 2^16 packets are left to the key, or fewer than half of a lower limit
+//! -- fewer than 2^16 packets are left to the key, and fewer than half of its limit
 //! abbrev pub is_update_due : Option Sender → Bool
 //! is_update_due None = false
 //! is_update_due (Some s) = nat_lt (left s) (2 ^ 16) && nat_lt (2 * left s) s.limit
