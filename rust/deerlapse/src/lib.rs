@@ -56,8 +56,8 @@
 //!
 //! Both features are on by default. With `std`, the vector instructions are chosen at run time, by what the processor has. Without
 //! it, only those are used for which the program is compiled (`-C target-feature`, `-C target-cpu`). `alloc` adds
-//! [`InOut`](aead::InOut) for `Vec<u8>` and the modules [`session`] and [`memory`]. Without either the packages need no allocator and no operating
-//! system. The `usize` of a target must have 64 bits.
+//! [`InOut`](aead::InOut) for `Vec<u8>` and the modules [`session`] and [`memory`]. Without either the packages need no allocator
+//! and no operating system. The `usize` of a target must have 64 bits.
 //!
 //! In a build without optimization these calls take some 270 times as long. `[profile.dev.package."*"] opt-level = 3` in a
 //! program's `Cargo.toml` optimizes its dependencies alone.

@@ -1,9 +1,10 @@
-//! Makes lists of calls on connections: `deerlapse-protocols-calls IN OUT`, with the file of the lists and the one of the answers.
+//! Makes lists of calls on connections: `deerlapse-protocols-calls IN OUT` reads the lists from the file IN, and writes a line for
+//! each call to the file OUT.
 //!
 //! `interop/against-rattle` draws the lists. The program in Rattle in `interop/against-rattle.d` makes the same calls.
 //!
-//! A list begins with a line of its kind, and `end` ends it. Each other line is a call of END, which is `client` or `server`, and
-//! is answered by one. `LEN SEED` stands for drawn bytes, and HEX for bytes in hexadecimal, or `-` for none.
+//! The first line of a list names its kind, and its last line is `end`. Each line between is a call of END, which is `client` or
+//! `server`. `LEN SEED` stands for drawn bytes, and HEX for bytes in hexadecimal, or `-` for none.
 //!
 //! Lists of QUIC begin with `quic` or `quic-wide`, whose windows have 128 and 1,024 numbers, and for each end `LIMIT FAILURES
 //! FIXED-BIT`. TYPE is a type of packets, SECRET is `SUITE SEED` or, for Initial packets, `client SEED` or `server SEED`, and

@@ -1,7 +1,7 @@
 // By hand, in place of crates/key_derivation/src/hash.rt: RustCrypto's traits have other names than Rattle's.
 //! The hash functions under HMAC, SHA-256 and SHA-384, with the lengths of their blocks and digests (FIPS 180-4).
 
-use sha2::digest::{self, Digest};
+use sha2::Digest;
 pub use sha2::{Sha256, Sha384};
 
 /// The length of the longest block in bytes, that of SHA-384.
@@ -67,7 +67,7 @@ impl Hash for Sha256 {
     }
 
     fn update(&mut self, bytes: impl AsRef<[u8]>) {
-        digest::Update::update(self, bytes.as_ref());
+        Digest::update(self, bytes);
     }
 
     fn fork(&self) -> Self {
@@ -91,7 +91,7 @@ impl Hash for Sha384 {
     }
 
     fn update(&mut self, bytes: impl AsRef<[u8]>) {
-        digest::Update::update(self, bytes.as_ref());
+        Digest::update(self, bytes);
     }
 
     fn fork(&self) -> Self {

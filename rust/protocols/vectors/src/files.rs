@@ -10,6 +10,7 @@ use sealed_file::{
     seal_with_passphrase,
 };
 use sha2::{Digest, Sha256};
+use vectors::hex;
 
 /// The passphrase of the tests.
 pub const PASSPHRASE: &[u8] = b"correct horse";
@@ -37,25 +38,9 @@ pub fn sealed_of(len: usize) -> Vec<u8> {
     sealed
 }
 
-/// Returns the bytes of a text in hex.
-///
-/// # Panics
-///
-/// Panics if a character is no digit, or the last byte has one alone.
-pub fn bytes(hex: &str) -> Vec<u8> {
-    let digit = |at: usize| u8::from_str_radix(&hex[at..at + 1], 16).expect("a digit in hex");
-    (0..hex.len())
-        .step_by(2)
-        .map(|at| 16 * digit(at) + digit(at + 1))
-        .collect()
-}
-
 /// Returns the SHA-256 of some bytes in hex.
 pub fn digest(bytes: &[u8]) -> String {
-    Sha256::digest(bytes)
-        .iter()
-        .map(|byte| format!("{byte:02x}"))
-        .collect()
+    hex::text(&Sha256::digest(bytes))
 }
 
 /// Returns how a call ended: `Ok`, or the variant of the error with its values.

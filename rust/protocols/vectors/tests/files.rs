@@ -1,14 +1,14 @@
 //! Files as another program seals them, and files that don't open, each with the error and with what is written by then.
 //!
 //! The expected bytes and digests were made by `tools/open-sealed-file` of the repository, which implements the format in Python
-//! over `cryptography` and `hashlib`. The examples of `SEALED_FILE.md` are its too.
+//! over `cryptography` and `hashlib`. It also made the examples of `SEALED_FILE.md`.
 
 use std::error::Error;
 use std::io;
 
 use deerlapse::memory::AllocError;
 use deerlapse_protocols_vectors::files::{
-    CALLS, PASSPHRASE, bytes, digest, end_of, file_of, key, random, sealed_of,
+    CALLS, PASSPHRASE, digest, end_of, file_of, key, random, sealed_of,
 };
 use sealed_file::{
     CHUNK_LEN, FileError, FileKey, FileRandom, HEADER_LEN, ITERATIONS, MAX_AAD_LEN, MAX_ITERATIONS,
@@ -16,6 +16,7 @@ use sealed_file::{
     open_chunk_at, open_with_aad, open_with_passphrase, plaintext_len, seal_bytes, seal_with_aad,
     seal_with_passphrase,
 };
+use vectors::hex;
 
 /// Lengths of files, each with the SHA-256 of the file sealed under the key, and under the passphrase with 2 iterations.
 const SEALED: [(usize, &str, &str); 8] = [
@@ -115,7 +116,7 @@ fn assert_unlocks(passphrase: &[u8], aad: &[u8], sealed: &[u8], file: &[u8], end
 fn first_example(tag: &str) -> Vec<u8> {
     let random = "01".repeat(19);
     let commitment = "3ac5048d5c00f0550363582baf61fbe83cf4f4870c461b5928756adae73df622";
-    bytes(&format!("5345414c46494c4502{random}{commitment}85{tag}"))
+    hex::bytes(&format!("5345414c46494c4502{random}{commitment}85{tag}"))
 }
 
 #[test]
@@ -138,7 +139,7 @@ fn first_example_of_sealed_file_md() {
 
 /// The second example of `SEALED_FILE.md`.
 fn second_example() -> Vec<u8> {
-    bytes(concat!(
+    hex::bytes(concat!(
         "5345414c46494c45030102030405060708090a0b0c0d0e0f10111213",
         "1c866f7848c4f090d8879b66b8d7f1e36367db57c9b62f74ae9966339bb75907",
         "000000039e60dfb3295f024c988f386352cb5f9624053b3e11"
@@ -162,8 +163,8 @@ fn derived_key_and_commitment() {
     let derived = "e9c621d4cdd9b11b00a6427ad7e559aeedd66b3857646677748f8ca796cb3fd8";
     let commitment = "6eeed565f0c9d2332b86a5141da7a2458828269731bf51d3c539d6fe28f7fdda";
     let key = FileKey::new(&[3; 32]).expect("a key of its length");
-    assert_eq!(key.derived_key(b"ABCDEFGHIJKL")[..], bytes(derived));
-    assert_eq!(key.commitment(b"ABCDEFGHIJKL")[..], bytes(commitment));
+    assert_eq!(key.derived_key(b"ABCDEFGHIJKL")[..], hex::bytes(derived));
+    assert_eq!(key.commitment(b"ABCDEFGHIJKL")[..], hex::bytes(commitment));
 }
 
 #[test]
@@ -256,7 +257,7 @@ fn passphrases_by_another_program() {
 #[test]
 fn an_empty_last_chunk_after_another() {
     let end = HEADER_LEN + SEALED_CHUNK_LEN;
-    let tag = bytes("1d637b951d781024775fd476dd1fab2d");
+    let tag = hex::bytes("1d637b951d781024775fd476dd1fab2d");
     let sealed = [&sealed_of(CHUNK_LEN + 5)[..end], &tag].concat();
     assert_opens(&sealed, CHUNK_LEN, "Ok");
 }
@@ -266,16 +267,16 @@ fn an_empty_last_chunk_after_another() {
 #[test]
 fn a_chunk_of_two_keys() {
     let other = FileKey::new(&[7; 32]).expect("a key of its length");
-    let bare = bytes(concat!(
+    let bare = hex::bytes(concat!(
         "5345414c46494c450101020304050607",
         "804648f4f58000b4a8a28db036efb41ef56669b39baa40b9a22d346fabc7567d"
     ));
-    let chunk = bytes("69c7b4dc31f8b17de51651c85e7f5a92493423d2ce0f713eaeefc49f5ec81038");
+    let chunk = hex::bytes("69c7b4dc31f8b17de51651c85e7f5a92493423d2ce0f713eaeefc49f5ec81038");
     let sealed = [&sealed_of(0)[..HEADER_LEN], &chunk].concat();
     for key in [key(), other] {
         assert_opens_by(&key, &[], &bare, b"", "AnotherVersion(1)");
     }
-    let opened = bytes("87d9d8f1124632cf48f05a1acf04789a");
+    let opened = hex::bytes("87d9d8f1124632cf48f05a1acf04789a");
     let other = FileKey::new(&[7; 32]).expect("a key of its length");
     assert_opens_by(&key(), &[], &sealed, &opened, "Ok");
     assert_opens_by(&other, &[], &sealed, b"", "WrongKey");
