@@ -291,7 +291,7 @@ GROWING = {
     "resize": "try_resize",
 }
 # What no source of the crates with an allocator may call: each ends the program where there is no memory.
-ENDING = {*GROWING, "to_vec", "with_capacity", "collect", "to_owned", "to_string", "format", "vec", "Box", "extend"}
+ENDING = {*GROWING, "to_vec", "with_capacity", "clone", "collect", "to_owned", "to_string", "format", "vec", "Box", "extend"}
 
 # What `erase.py` and `levels.py` replace by their own code, for README.
 REWRITTEN = [
